@@ -14,3 +14,6 @@ pub use station::StationDebug;
 pub use station::StationIsKind;
 pub use station::StationKind;
 pub use station::StationPartialEq;
+
+#[cfg(test)]
+mod tests;

@@ -1,0 +1,4 @@
+pub mod Runs
+pub mod Cuts
+pub mod Steps
+pub mod Forms

@@ -1,0 +1,4 @@
+pub mod Parts
+pub mod Forms
+pub mod Cuts
+pub mod Steps

@@ -1,0 +1,3 @@
+mod Went
+mod Splits
+mod Printing
