@@ -1,0 +1,12 @@
+use mathlib.Core.Path.{refl, sym, subst}
+use Rattle.plain_lock.proofs.Agrees.{Agrees, step-agrees}
+use Rattle.plain_lock.proofs.Laws.{step-at}
+use Rattle.plain_lock.proofs.lock.steps.PlainIsLock.step.Needs as need
+
+pub ghost-self : need.ghost-self
+ghost-self c =
+    let k = subst Agrees (sym (c .step .ensures)) (step-agrees (c .args .self .now) (c .args .slot) (c .pre)) in
+    (k .full, (k .counted, (k .alone, tt)))
+
+pub returns : need.returns
+returns c = record { answer = c .stand .ensures; left = step-at (c .args .self .now) _ (c .args .slot) _ refl (c .step .ensures) }
