@@ -2,12 +2,12 @@
 use mathlib.Core.Path.{_≡_, refl, sym, ap, _∙_}
 use mathlib.Core.Bool.{Bool, true, false, cond}
 use mathlib.Core.List.{List, [], _∷_, _++_}
-use Prim.Native.Nat.{ℕ, suc, min, _+_, _≤_, _<_}
+use Prim.Native.Nat.{ℕ, min, _+_, _≤_, _<_}
 use native.Mathlib.Omega.{arith}
 use lib.Dec.{eqb, ltb}
-use lib.ListN.{length, take, getD}
-use Rattle.std.proofs.shelf.Lists.{take-more, take-all, length-take-le}
-use Rattle.std.proofs.shelf.Tests.{lt-ltb, le-ltb, ltb-true, ltb-false}
+use lib.ListN.{length, take, getD, set}
+use Rattle.std.proofs.shelf.Lists.{take-more, take-all, take-set, take-more-set, length-take-le, getD-set-other}
+use Rattle.std.proofs.shelf.Tests.{lt-ltb, le-ltb, ltb-true, ltb-false, eq-eqb, ne-eqb}
 use Rattle.line_table.specs.Lines.{pushed}
 use Rattle.lock.specs.Line.{without}
 
@@ -37,17 +37,24 @@ without-push i (y ∷ l) x =
 pub without-more : (s : ℕ) (xs : List ℕ) (i : ℕ) → i < length xs → without s (take (i + 1) xs) ≡ cond (eqb (getD xs i 0) s) (without s (take i xs)) (without s (take i xs) ++ (getD xs i 0 ∷ []))
 without-more s xs i h = ap (without s) (take-more xs i 0 h) ∙ without-push s (take i xs) (getD xs i 0)
 
-fewer : (b : Bool) (x : ℕ) (l m : List ℕ) → length m ≤ length l → length (cond b m (x ∷ m)) ≤ suc (length l)
-fewer true x l m h = omega arith
-fewer false x l m h = omega arith
+-- the slot at i moves up to n, the end of those that stay
+pub moves-up : (s : ℕ) (xs ys : List ℕ) (i n : ℕ) → n < length xs → i < length ys → take n xs ≡ without s (take i ys) → getD xs i 0 ≡ getD ys i 0 → (getD xs i 0 ≡ s → ⊥) → take (n + 1) (set xs n (getD xs i 0)) ≡ without s (take (i + 1) ys)
+moves-up s xs ys i n h l e d o =
+    let front = without s (take i ys) in
+    let f = ne-eqb (getD ys i 0) s (λ z. o (d ∙ z)) in
+    take-more-set xs n (getD xs i 0) h ∙ ap (λ z. z ++ (getD xs i 0 ∷ [])) e ∙ ap (λ x. front ++ (x ∷ [])) d
+    ∙ ap (λ b. cond b front (front ++ (getD ys i 0 ∷ []))) (sym f) ∙ sym (without-more s ys i l)
 
-without-length : (i : ℕ) (l : List ℕ) → length (without i l) ≤ length l
-without-length i [] = omega arith
-without-length i (x ∷ l) = fewer (eqb x i) x l (without i l) (without-length i l)
+-- the slot that quits is written over
+pub drops-out : (s : ℕ) (xs ys : List ℕ) (i n : ℕ) → i < length ys → take n xs ≡ without s (take i ys) → getD xs i 0 ≡ getD ys i 0 → getD xs i 0 ≡ s → take n (set xs n (getD xs i 0)) ≡ without s (take (i + 1) ys)
+drops-out s xs ys i n l e d o =
+    let front = without s (take i ys) in
+    let f = eq-eqb (getD ys i 0) s (sym d ∙ o) in
+    take-set xs n (getD xs i 0) ∙ e ∙ ap (λ b. cond b front (front ++ (getD ys i 0 ∷ []))) (sym f) ∙ sym (without-more s ys i l)
 
--- a front of the table, without a slot, leaves room for one more
-pub front-room : (s : ℕ) (xs : List ℕ) (i : ℕ) → i < length xs → i < 32 → length (without s (take i xs)) < 32
-front-room s xs i h l = let n = without-length s (take i xs) in let m = length-take-le i xs (omega arith) in omega arith
+-- a write at n leaves what stands behind it
+pub behind : (xs ys : List ℕ) (i n x : ℕ) → n ≤ i → ((k : ℕ) → i ≤ k → getD xs k 0 ≡ getD ys k 0) → (k : ℕ) → i + 1 ≤ k → getD (set xs n x) k 0 ≡ getD ys k 0
+behind xs ys i n x h f k l = getD-set-other xs n k x 0 (λ e. omega arith) ∙ f k (omega arith)
 
 -- past the table's end a front has no more
 pub front-end : (i n : ℕ) (xs : List ℕ) → i ≡ min n (length xs) → take i xs ≡ take n xs

@@ -32,11 +32,19 @@ impl Line {
         }
     }
 
-    // A slot quits the line.
+    // A slot quits the line, and those behind it move up.
     pub fn remove(&mut self, slot: usize)
         ensures { λ _. ⌜ in-line (now (self .exit)) ≡ without slot (in-line (now (self .entry))) ⌝ }
     {
-        *self = self.rest(slot);
+        let mut len = 0;
+        for i in 0..self.len.min(32) {
+            let other = self.slots[i];
+            self.slots[len] = other;
+            if other != slot {
+                len += 1;
+            }
+        }
+        self.len = len;
     }
 
     fn has_room(&self) -> bool
@@ -52,19 +60,5 @@ impl Line {
     {
         self.slots[self.len] = slot;
         self.len += 1;
-    }
-
-    // The line of the other slots.
-    fn rest(&self, slot: usize) -> Line
-        ensures { λ r. ⌜ in-line r ≡ without slot (in-line (now (self .entry))) ⌝ }
-    {
-        let mut rest = Line::empty();
-        for i in 0..self.len.min(32) {
-            let other = self.slots[i];
-            if other != slot {
-                rest.push(other);
-            }
-        }
-        rest
     }
 }

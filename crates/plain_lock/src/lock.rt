@@ -14,3 +14,11 @@ pub struct PlainLock {
     ghost counted: { words .word ≡ 2 * readers (words .slots) + writers (words .slots) },
     ghost alone: { writers (words .slots) ≤ 1 },
 }
+
+impl PlainLock {
+    pub fn words(&self) -> Words
+        ensures { λ r. ⌜ r ≡ now (self .entry) .words ⌝ }
+    {
+        self.words
+    }
+}

@@ -5,6 +5,8 @@ ghost use Rattle.plain_words.specs.Words.{fresh-words, stands, moved, stepped,
 use crate::places::Standing;
 use lock::Class;
 
+pub mod shown;
+
 // What the lock keeps of one slot.
 #[derive(Clone, Copy)]
 pub struct Slot {

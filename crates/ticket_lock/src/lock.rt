@@ -23,3 +23,11 @@ pub struct TicketLock {
     ghost readers_hold: { Placed ReaderH words (in-line line) },
     ghost writers_hold: { Placed WriterH words (in-line line) },
 }
+
+impl TicketLock {
+    pub fn words(&self) -> Words
+        ensures { λ r. ⌜ r ≡ now (self .entry) .words ⌝ }
+    {
+        self.words
+    }
+}

@@ -10,6 +10,8 @@ use crate::table::Standing;
 use crate::table::Table;
 use lock::Class;
 
+pub mod shown;
+
 #[derive(Clone, Copy)]
 pub struct Words {
     requests: u32,

@@ -13,6 +13,15 @@ use ticket_words::Label;
 use ticket_words::Words;
 
 impl TicketLock {
+    // Where the slot stands.
+    fn stand(&self, slot: usize) -> (Phase, Label)
+        requires { ⌜ slot < 32 ⌝ }
+        ensures { λ r. ⌜ r ≡ (phases (now (self .entry)) slot, labels (now (self .entry)) slot) ⌝ }
+    {
+        let standing = self.words.standing(slot);
+        (standing.phase(), standing.label())
+    }
+
     // The first step of a called slot: it arrives at the line's end.
     fn arrive(&mut self, slot: usize)
         requires { ⌜ slot < 32 ⌝ ∗ ⌜ phases (now self) slot ≡ Called ⌝ }
@@ -107,12 +116,10 @@ pub impl Lock for TicketLock as TicketIsLock {
     fn step(&mut self, slot: usize) -> (Phase, Label) {
         match self.phase(slot) {
             Phase::Called => self.arrive(slot),
-            Phase::Waits => self.go_on(slot),
-            Phase::Leaves => self.go_on(slot),
-            Phase::Idle => {}
-            Phase::Holds => {}
+            Phase::Waits | Phase::Leaves => self.go_on(slot),
+            Phase::Idle | Phase::Holds => {}
         }
-        (self.phase(slot), self.label(slot))
+        self.stand(slot)
     }
 
     fn finish(&mut self, slot: usize) -> (Phase, Label) {
@@ -120,6 +127,6 @@ pub impl Lock for TicketLock as TicketIsLock {
             Phase::Holds => self.quit(slot),
             _ => {}
         }
-        (self.phase(slot), self.label(slot))
+        self.stand(slot)
     }
 }

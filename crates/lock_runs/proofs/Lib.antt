@@ -1,0 +1,4 @@
+mod Digits
+mod Sums
+mod Traces
+mod Turns

@@ -1,0 +1,6 @@
+pub mod Acts
+pub mod Drive
+pub mod Plain
+pub mod Scripts
+pub mod Ticket
+pub mod Traces
