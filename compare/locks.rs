@@ -1,407 +1,765 @@
-//! Both locks, written from docs/RULES.md alone, to hold the proved ones against.
+//! Both locks, the plain one and the ticket lock, written from docs/RULES.md
+//! alone, to hold the proved ones against.
 //!
-//!     locks                          reads a script or a bench line from standard input
-//!     locks script LOCK SLOTS OPS SEED   prints a random script
-//!     locks writes LOCK JOBS             prints a script of one slot that writes JOBS times
+//! Ways to be called:
+//!
+//!   locks                            runs the script or the bench line on
+//!                                    standard input
+//!   locks script LOCK SLOTS OPS SEED prints a random script of OPS operations
+//!   locks writes LOCK JOBS           prints a script in which slot 0 alone
+//!                                    does JOBS complete writes
+//!
+//! LOCK is `plain` or `ticket`; SLOTS is 1 to 32.
 
-use std::fmt::Write as _;
-use std::io::{Read as _, Write as _};
+use std::fmt::{self, Debug, Display};
+use std::hint::black_box;
+use std::io::{self, BufWriter, Read, Write};
 use std::process::ExitCode;
-use std::time::Instant;
+use std::time::{Duration, Instant};
 
+/// A lock has room for this many slots.
 const ROOM: usize = 32;
 
-// ---- What both locks have: where each slot stands, and the class of its job. ----
+// ---------------------------------------------------------------------------
+// What a lock is
+// ---------------------------------------------------------------------------
 
-#[derive(Clone, Copy, PartialEq)]
-enum Label { I, H, P1, P2, P3, P4, P5, T1, T2, T3, T4, T5, T6 }
+#[derive(Clone, Copy, PartialEq, Eq)]
+enum Class {
+    Reading,
+    Writing,
+}
 
-impl Label {
-    fn text(self) -> &'static str {
-        match self {
-            Label::I => "I", Label::H => "H",
-            Label::P1 => "P1", Label::P2 => "P2", Label::P3 => "P3", Label::P4 => "P4", Label::P5 => "P5",
-            Label::T1 => "T1", Label::T2 => "T2", Label::T3 => "T3",
-            Label::T4 => "T4", Label::T5 => "T5", Label::T6 => "T6",
-        }
-    }
+#[derive(Clone, Copy, PartialEq, Eq)]
+enum Phase {
+    Idle,
+    Called,
+    Waits,
+    Holds,
+    Leaves,
+}
+
+/// Where a slot stands: idle, holding, or at a label of its lock's own table.
+#[derive(Clone, Copy, PartialEq, Eq)]
+enum Stand<L> {
+    I,
+    H,
+    At(L),
+}
+
+/// Why a call is refused. No slot of these two locks is barred, so a busy slot
+/// is the only reason.
+enum Refusal {
+    Busy = 4,
+}
+
+/// What sets one lock apart: its words, its labels and what they do.
+trait Rules: Clone {
+    type Label: Copy + PartialEq + Debug;
+
+    const NAME: &'static str;
+
+    /// The words of a fresh lock.
+    fn fresh() -> Self;
+
+    /// Where a call for this class goes.
+    fn entry(class: Class) -> Self::Label;
+
+    /// Where the finish of a holder of this class goes.
+    fn exit(class: Class) -> Self::Label;
+
+    /// Makes the one access of a step at `label` and answers what is next.
+    fn access(&mut self, slot: usize, label: Self::Label) -> Stand<Self::Label>;
+
+    /// The words that are printed after an operation of `slot`.
+    fn words(&self, slot: usize) -> Vec<u32>;
+
+    fn checksum(&self) -> u32;
 }
 
 #[derive(Clone, Copy)]
-struct Slot {
-    label: Label,
-    writing: bool,
-    // Whether it has stepped since its call: only P4 is called first and waits later.
-    stepped: bool,
-    kept: u32,
+struct Slot<L> {
+    phase: Phase,
+    /// Of the job; without meaning while the slot is idle.
+    class: Class,
+    stand: Stand<L>,
 }
 
-impl Slot {
-    const FRESH: Slot = Slot { label: Label::I, writing: false, stepped: false, kept: 0 };
+/// A lock: its words, and what each slot is doing. The line of an ordered lock
+/// is not kept here: no label reads it, and nothing prints it.
+struct Lock<R: Rules> {
+    words: R,
+    slots: [Slot<R::Label>; ROOM],
+}
 
-    fn phase(&self) -> &'static str {
-        match self.label {
-            Label::I => "idle",
-            Label::H => "holds",
-            Label::P1 | Label::T1 | Label::T4 => "called",
-            Label::P2 | Label::T2 | Label::T5 => "waits",
-            Label::P4 => if self.stepped { "waits" } else { "called" },
-            Label::P3 | Label::P5 | Label::T3 | Label::T6 => "leaves",
+impl<R: Rules> Lock<R> {
+    fn fresh() -> Self {
+        let idle = Slot {
+            phase: Phase::Idle,
+            class: Class::Reading,
+            stand: Stand::I,
+        };
+        Lock {
+            words: R::fresh(),
+            slots: [idle; ROOM],
         }
     }
 
-    fn idle(&self) -> bool { self.label == Label::I }
-
-    fn holds(&self) -> bool { self.label == Label::H }
-}
-
-const BUSY: u32 = 4;
-
-trait Model: Default + Clone {
-    fn slots(&self) -> &[Slot; ROOM];
-    fn call(&mut self, slot: usize, writing: bool) -> Result<(), u32>;
-    fn step(&mut self, slot: usize);
-    fn finish(&mut self, slot: usize);
-    // The shared words, then the slot's register if the lock has registers.
-    fn shared(&self) -> Vec<u32>;
-    fn register(&self, slot: usize) -> Option<u32>;
-    // Whether it is the slot's turn by the line; a lock with no line has no turns.
-    fn in_turn(&self, _slot: usize) -> bool { true }
-}
-
-// ---- The plain lock. ----
-
-#[derive(Clone)]
-struct Plain { word: u32, slots: [Slot; ROOM] }
-
-impl Default for Plain {
-    fn default() -> Self { Plain { word: 0, slots: [Slot::FRESH; ROOM] } }
-}
-
-impl Model for Plain {
-    fn slots(&self) -> &[Slot; ROOM] { &self.slots }
-
-    fn call(&mut self, slot: usize, writing: bool) -> Result<(), u32> {
-        let s = &mut self.slots[slot];
-        if !s.idle() { return Err(BUSY); }
-        s.label = if writing { Label::P4 } else { Label::P1 };
-        s.writing = writing;
-        s.stepped = false;
-        Ok(())
-    }
-
-    fn step(&mut self, slot: usize) {
-        let s = &mut self.slots[slot];
-        match s.label {
-            Label::P1 => { self.word = self.word.wrapping_add(2); s.label = Label::P2; }
-            Label::P2 => if self.word & 1 == 0 { s.label = Label::H },
-            Label::P3 => { self.word = self.word.wrapping_sub(2); s.label = Label::I; }
-            Label::P4 => if self.word == 0 { self.word = 1; s.label = Label::H },
-            Label::P5 => { self.word = self.word.wrapping_sub(1); s.label = Label::I; }
-            _ => return,
+    #[inline(always)]
+    fn call(&mut self, slot: usize, class: Class) -> Result<(), Refusal> {
+        let me = &mut self.slots[slot];
+        if me.phase != Phase::Idle {
+            return Err(Refusal::Busy);
         }
-        s.stepped = true;
-    }
-
-    fn finish(&mut self, slot: usize) {
-        let s = &mut self.slots[slot];
-        if s.holds() { s.label = if s.writing { Label::P5 } else { Label::P3 }; }
-    }
-
-    fn shared(&self) -> Vec<u32> { vec![self.word] }
-
-    fn register(&self, _slot: usize) -> Option<u32> { None }
-}
-
-// ---- The ticket lock. ----
-
-#[derive(Clone)]
-struct Ticket { requests: u32, completions: u32, slots: [Slot; ROOM], line: [u8; ROOM], in_line: usize }
-
-impl Default for Ticket {
-    fn default() -> Self {
-        Ticket { requests: 0, completions: 0, slots: [Slot::FRESH; ROOM], line: [0; ROOM], in_line: 0 }
-    }
-}
-
-fn count(half: u32) -> u32 { half % 32_768 + 1 }
-
-fn count_reader(word: u32) -> u32 { count(word >> 16) << 16 | word & 0xffff }
-
-fn count_writer(word: u32) -> u32 { word & 0xffff_0000 | count(word & 0xffff) }
-
-impl Ticket {
-    fn arrive(&mut self, slot: usize) {
-        self.line[self.in_line] = slot as u8;
-        self.in_line += 1;
-    }
-
-    fn quit(&mut self, slot: usize) {
-        let at = self.line[..self.in_line].iter().position(|&s| s as usize == slot).expect("in line");
-        self.line.copy_within(at + 1..self.in_line, at);
-        self.in_line -= 1;
-    }
-}
-
-impl Model for Ticket {
-    fn slots(&self) -> &[Slot; ROOM] { &self.slots }
-
-    fn call(&mut self, slot: usize, writing: bool) -> Result<(), u32> {
-        let s = &mut self.slots[slot];
-        if !s.idle() { return Err(BUSY); }
-        s.label = if writing { Label::T4 } else { Label::T1 };
-        s.writing = writing;
+        *me = Slot {
+            phase: Phase::Called,
+            class,
+            stand: Stand::At(R::entry(class)),
+        };
         Ok(())
     }
 
-    fn step(&mut self, slot: usize) {
-        let s = &mut self.slots[slot];
-        match s.label {
-            Label::T1 => {
-                s.kept = self.requests & 0xffff;
+    /// A slot that is idle or holds stays as it is.
+    #[inline(always)]
+    fn step(&mut self, slot: usize) -> Phase {
+        let me = &mut self.slots[slot];
+        if let Stand::At(label) = me.stand {
+            me.stand = self.words.access(slot, label);
+            me.phase = match (me.stand, me.phase) {
+                (Stand::I, _) => Phase::Idle,
+                (Stand::H, _) => Phase::Holds,
+                (Stand::At(_), Phase::Leaves) => Phase::Leaves,
+                (Stand::At(_), _) => Phase::Waits,
+            };
+        }
+        me.phase
+    }
+
+    /// A slot that does not hold stays as it is.
+    #[inline(always)]
+    fn finish(&mut self, slot: usize) -> Phase {
+        let me = &mut self.slots[slot];
+        if me.phase == Phase::Holds {
+            me.phase = Phase::Leaves;
+            me.stand = Stand::At(R::exit(me.class));
+        }
+        me.phase
+    }
+
+    fn run(&mut self, op: Op) -> Answer {
+        match op.verb {
+            Verb::Read => Answer::Called(self.call(op.slot, Class::Reading)),
+            Verb::Write => Answer::Called(self.call(op.slot, Class::Writing)),
+            Verb::Step => Answer::Now(self.step(op.slot)),
+            Verb::Finish => Answer::Now(self.finish(op.slot)),
+        }
+    }
+
+    fn phase(&self, slot: usize) -> Phase {
+        self.slots[slot].phase
+    }
+
+    /// Whether a step would take the slot away from where it stands.
+    fn can_move_on(&self, slot: usize) -> bool {
+        match self.slots[slot].stand {
+            Stand::At(label) => self.words.clone().access(slot, label) != Stand::At(label),
+            Stand::I | Stand::H => false,
+        }
+    }
+}
+
+// ---------------------------------------------------------------------------
+// The plain lock
+// ---------------------------------------------------------------------------
+
+#[derive(Clone)]
+struct Plain {
+    word: u32,
+}
+
+#[derive(Clone, Copy, PartialEq, Debug)]
+enum PlainLabel {
+    P1,
+    P2,
+    P3,
+    P4,
+    P5,
+}
+
+impl Rules for Plain {
+    type Label = PlainLabel;
+
+    const NAME: &'static str = "plain";
+
+    fn fresh() -> Self {
+        Plain { word: 0 }
+    }
+
+    fn entry(class: Class) -> PlainLabel {
+        match class {
+            Class::Reading => PlainLabel::P1,
+            Class::Writing => PlainLabel::P4,
+        }
+    }
+
+    fn exit(class: Class) -> PlainLabel {
+        match class {
+            Class::Reading => PlainLabel::P3,
+            Class::Writing => PlainLabel::P5,
+        }
+    }
+
+    #[inline(always)]
+    fn access(&mut self, _slot: usize, label: PlainLabel) -> Stand<PlainLabel> {
+        use PlainLabel::*;
+        match label {
+            P1 => {
+                self.word = self.word.wrapping_add(2);
+                Stand::At(P2)
+            }
+            P2 if self.word & 1 == 0 => Stand::H,
+            P2 => Stand::At(P2),
+            P3 => {
+                self.word = self.word.wrapping_sub(2);
+                Stand::I
+            }
+            P4 if self.word == 0 => {
+                self.word = 1;
+                Stand::H
+            }
+            P4 => Stand::At(P4),
+            P5 => {
+                self.word = self.word.wrapping_sub(1);
+                Stand::I
+            }
+        }
+    }
+
+    fn words(&self, _slot: usize) -> Vec<u32> {
+        vec![self.word]
+    }
+
+    fn checksum(&self) -> u32 {
+        self.word
+    }
+}
+
+// ---------------------------------------------------------------------------
+// The ticket lock
+// ---------------------------------------------------------------------------
+
+#[derive(Clone)]
+struct Ticket {
+    requests: u32,
+    completions: u32,
+    kept: [u32; ROOM],
+}
+
+#[derive(Clone, Copy, PartialEq, Debug)]
+enum TicketLabel {
+    T1,
+    T2,
+    T3,
+    T4,
+    T5,
+    T6,
+}
+
+/// Writers are counted in the lower half of a word, readers in the upper.
+fn lower(word: u32) -> u32 {
+    word & 0xffff
+}
+
+fn upper(word: u32) -> u32 {
+    word >> 16
+}
+
+/// Counting goes 0, 1, ..., 32768, and from there to 1 again.
+fn counted(half: u32) -> u32 {
+    half % 32_768 + 1
+}
+
+fn count_reader(word: u32) -> u32 {
+    counted(upper(word)) << 16 | lower(word)
+}
+
+fn count_writer(word: u32) -> u32 {
+    upper(word) << 16 | counted(lower(word))
+}
+
+impl Rules for Ticket {
+    type Label = TicketLabel;
+
+    const NAME: &'static str = "ticket";
+
+    fn fresh() -> Self {
+        Ticket {
+            requests: 0,
+            completions: 0,
+            kept: [0; ROOM],
+        }
+    }
+
+    fn entry(class: Class) -> TicketLabel {
+        match class {
+            Class::Reading => TicketLabel::T1,
+            Class::Writing => TicketLabel::T4,
+        }
+    }
+
+    fn exit(class: Class) -> TicketLabel {
+        match class {
+            Class::Reading => TicketLabel::T3,
+            Class::Writing => TicketLabel::T6,
+        }
+    }
+
+    #[inline(always)]
+    fn access(&mut self, slot: usize, label: TicketLabel) -> Stand<TicketLabel> {
+        use TicketLabel::*;
+        match label {
+            T1 => {
+                self.kept[slot] = lower(self.requests);
                 self.requests = count_reader(self.requests);
-                s.label = Label::T2;
-                self.arrive(slot);
+                Stand::At(T2)
             }
-            Label::T2 => if self.completions & 0xffff == s.kept { s.label = Label::H },
-            Label::T3 => { self.completions = count_reader(self.completions); s.label = Label::I; }
-            Label::T4 => {
-                s.kept = self.requests;
+            T2 if lower(self.completions) == self.kept[slot] => Stand::H,
+            T2 => Stand::At(T2),
+            T3 => {
+                self.completions = count_reader(self.completions);
+                Stand::I
+            }
+            T4 => {
+                self.kept[slot] = self.requests;
                 self.requests = count_writer(self.requests);
-                s.label = Label::T5;
-                self.arrive(slot);
+                Stand::At(T5)
             }
-            Label::T5 => if self.completions == s.kept { s.label = Label::H },
-            Label::T6 => { self.completions = count_writer(self.completions); s.label = Label::I; }
-            _ => {}
+            T5 if self.completions == self.kept[slot] => Stand::H,
+            T5 => Stand::At(T5),
+            T6 => {
+                self.completions = count_writer(self.completions);
+                Stand::I
+            }
         }
     }
 
-    fn finish(&mut self, slot: usize) {
-        let s = &mut self.slots[slot];
-        if !s.holds() { return; }
-        s.label = if s.writing { Label::T6 } else { Label::T3 };
-        self.quit(slot);
+    fn words(&self, slot: usize) -> Vec<u32> {
+        vec![self.requests, self.completions, self.kept[slot]]
     }
 
-    fn shared(&self) -> Vec<u32> { vec![self.requests, self.completions] }
-
-    fn register(&self, slot: usize) -> Option<u32> { Some(self.slots[slot].kept) }
-
-    fn in_turn(&self, slot: usize) -> bool {
-        let before = self.line[..self.in_line].iter().take_while(|&&s| s as usize != slot);
-        let writing = self.slots[slot].writing;
-        before.into_iter().all(|&s| !writing && !self.slots[s as usize].writing)
+    /// Takes in the *kept* of all the slots that a lock has room for, also
+    /// where fewer are driven.
+    fn checksum(&self) -> u32 {
+        [self.requests, self.completions]
+            .iter()
+            .chain(&self.kept)
+            .fold(0, |sum: u32, &word| sum.wrapping_mul(31).wrapping_add(word))
     }
 }
 
-// ---- Scripts. ----
+// ---------------------------------------------------------------------------
+// Operations, and what is printed of them
+// ---------------------------------------------------------------------------
 
-// A slot that has begun to hold: nobody else holds beside a writer, and it was its turn.
-fn may_hold<M: Model>(lock: &M, slot: usize) -> bool {
-    let writing = lock.slots()[slot].writing;
-    let others = lock.slots().iter().enumerate().filter(|&(i, s)| i != slot && s.holds());
-    others.into_iter().all(|(_, s)| !writing && !s.writing) && lock.in_turn(slot)
+#[derive(Clone, Copy)]
+enum Verb {
+    Read,
+    Write,
+    Step,
+    Finish,
 }
 
-fn slot_number(text: &str) -> Option<usize> {
-    let plain = text.len() <= 2 && text.bytes().all(|b| b.is_ascii_digit());
-    let led = text.len() == 2 && text.starts_with('0');
-    text.parse().ok().filter(|&slot| plain && !led && slot < ROOM)
+#[derive(Clone, Copy)]
+struct Op {
+    verb: Verb,
+    slot: usize,
 }
 
-fn operate<M: Model>(lock: &mut M, line: &str, out: &mut String) -> Option<()> {
-    let (kind, slot) = line.split_once(' ')?;
-    let slot = slot_number(slot)?;
-    let held = lock.slots()[slot].holds();
-    let call = match kind {
-        "r" => Some(lock.call(slot, false)),
-        "w" => Some(lock.call(slot, true)),
-        "s" => { lock.step(slot); None }
-        "f" => { lock.finish(slot); None }
-        _ => return None,
-    };
-    let s = &lock.slots()[slot];
-    if s.holds() && !held {
-        assert!(may_hold(lock, slot), "the model breaks its own rules");
-    }
-    match call {
-        Some(Ok(())) => out.push_str("ok"),
-        Some(Err(number)) => write!(out, "{number}").unwrap(),
-        None => out.push_str(s.phase()),
-    }
-    write!(out, " {}", s.label.text()).unwrap();
-    for word in lock.shared().into_iter().chain(lock.register(slot)) {
-        write!(out, " {word}").unwrap();
-    }
-    out.push('\n');
-    Some(())
+enum Answer {
+    Called(Result<(), Refusal>),
+    Now(Phase),
 }
 
-fn trace<M: Model>(script: &str) -> Result<String, String> {
-    let mut lock = M::default();
-    let mut out = String::new();
-    for (i, line) in script.lines().enumerate() {
-        operate(&mut lock, line, &mut out).ok_or_else(|| format!("line {}: no operation", i + 2))?;
+impl Display for Op {
+    fn fmt(&self, f: &mut fmt::Formatter) -> fmt::Result {
+        let letter = match self.verb {
+            Verb::Read => 'r',
+            Verb::Write => 'w',
+            Verb::Step => 's',
+            Verb::Finish => 'f',
+        };
+        write!(f, "{letter} {}", self.slot)
     }
-    Ok(out)
 }
 
-// ---- Speed. ----
+impl Display for Phase {
+    fn fmt(&self, f: &mut fmt::Formatter) -> fmt::Result {
+        f.write_str(match self {
+            Phase::Idle => "idle",
+            Phase::Called => "called",
+            Phase::Waits => "waits",
+            Phase::Holds => "holds",
+            Phase::Leaves => "leaves",
+        })
+    }
+}
 
-fn drive<M: Model>(lock: &mut M, slots: usize, steps: u64) {
-    let (mut slot, mut round) = (0, 0u8);
+impl Display for Answer {
+    fn fmt(&self, f: &mut fmt::Formatter) -> fmt::Result {
+        match self {
+            Answer::Called(Ok(())) => f.write_str("ok"),
+            Answer::Called(Err(Refusal::Busy)) => write!(f, "{}", Refusal::Busy as u32),
+            Answer::Now(phase) => write!(f, "{phase}"),
+        }
+    }
+}
+
+impl<L: Debug> Display for Stand<L> {
+    fn fmt(&self, f: &mut fmt::Formatter) -> fmt::Result {
+        match self {
+            Stand::I => f.write_str("I"),
+            Stand::H => f.write_str("H"),
+            Stand::At(label) => write!(f, "{label:?}"),
+        }
+    }
+}
+
+/// Runs the operations on a fresh lock and prints a line for each.
+fn trace<R: Rules>(ops: &[Op], out: &mut impl Write) -> io::Result<()> {
+    let mut lock = Lock::<R>::fresh();
+    for &op in ops {
+        let answer = lock.run(op);
+        write!(out, "{answer} {}", lock.slots[op.slot].stand)?;
+        for word in lock.words.words(op.slot) {
+            write!(out, " {word}")?;
+        }
+        writeln!(out)?;
+    }
+    Ok(())
+}
+
+// ---------------------------------------------------------------------------
+// The bench
+// ---------------------------------------------------------------------------
+
+/// Runs the fixed driver; the time is that of the loop alone.
+fn drive<R: Rules>(slots: usize, steps: u64) -> (Lock<R>, Duration) {
+    let mut lock = black_box(Lock::<R>::fresh());
+    let (slots, steps) = black_box((slots, steps));
+    // Of operation k, slot is k mod slots and round is k / slots.
+    let (mut slot, mut round) = (0, 0_u64);
+    let start = Instant::now();
     for _ in 0..steps {
-        let s = &lock.slots()[slot];
-        if s.idle() {
-            let _ = lock.call(slot, round == 0);
-        } else if s.holds() {
-            lock.finish(slot);
-        } else {
-            lock.step(slot);
+        match lock.phase(slot) {
+            Phase::Idle => {
+                let class = match round % 4 {
+                    0 => Class::Writing,
+                    _ => Class::Reading,
+                };
+                let _ = lock.call(slot, class);
+            }
+            Phase::Holds => {
+                lock.finish(slot);
+            }
+            Phase::Called | Phase::Waits | Phase::Leaves => {
+                lock.step(slot);
+            }
         }
         slot += 1;
         if slot == slots {
             slot = 0;
-            round = (round + 1) % 4;
+            round += 1;
         }
     }
+    black_box(&mut lock);
+    let time = start.elapsed();
+    (lock, time)
 }
 
-fn checksum<M: Model>(lock: &M) -> u32 {
-    let registers = (0..ROOM).filter_map(|slot| lock.register(slot));
-    lock.shared().into_iter().chain(registers).fold(0, |sum: u32, word| sum.wrapping_mul(31).wrapping_add(word))
+fn bench<R: Rules>(slots: usize, steps: u64, out: &mut impl Write) -> io::Result<()> {
+    let (lock, time) = drive::<R>(slots, steps);
+    writeln!(out, "{} {slots} {steps} {}", R::NAME, time.as_nanos())?;
+    writeln!(out, "checksum {}", lock.words.checksum())
 }
 
-fn bench<M: Model>(name: &str, slots: usize, steps: u64) -> String {
-    let mut lock = std::hint::black_box(M::default());
-    let start = Instant::now();
-    drive(&mut lock, slots, steps);
-    let time = start.elapsed().as_nanos();
-    let lock = std::hint::black_box(lock);
-    format!("{name} {slots} {steps} {time}\nchecksum {}\n", checksum(&lock))
+// ---------------------------------------------------------------------------
+// Reading the input
+// ---------------------------------------------------------------------------
+
+#[derive(Clone, Copy)]
+enum Kind {
+    Plain,
+    Ticket,
 }
 
-fn bench_line(words: &[&str]) -> Option<String> {
-    let &[name, slots, steps] = words else { return None };
-    let slots: usize = slots.parse().ok().filter(|slots| (1..=ROOM).contains(slots))?;
-    let steps = steps.parse().ok()?;
-    match name {
-        "plain" => Some(bench::<Plain>(name, slots, steps)),
-        "ticket" => Some(bench::<Ticket>(name, slots, steps)),
+enum Work {
+    Trace { ops: Vec<Op> },
+    Bench { slots: usize, steps: u64 },
+    Script { slots: usize, ops: u64, seed: u64 },
+    Writes { jobs: u64 },
+}
+
+/// What the program is to do, and on which lock.
+struct Task {
+    kind: Kind,
+    work: Work,
+}
+
+fn kind(text: &[u8]) -> Option<Kind> {
+    match text {
+        b"plain" => Some(Kind::Plain),
+        b"ticket" => Some(Kind::Ticket),
         _ => None,
     }
 }
 
-fn run(text: &str) -> Result<String, String> {
-    let (first, script) = text.split_once('\n').unwrap_or((text, ""));
-    let first: Vec<&str> = first.split(' ').collect();
-    match first[..] {
-        ["plain"] => trace::<Plain>(script),
-        ["ticket"] => trace::<Ticket>(script),
-        ["bench", ref words @ ..] => bench_line(words).ok_or_else(|| "line 1: no bench".to_string()),
-        _ => Err("line 1: no lock".to_string()),
+/// A decimal number with no leading zero, except 0 itself.
+fn number(text: &[u8]) -> Option<u64> {
+    let well_formed = match text {
+        [] => false,
+        [b'0', rest @ ..] => rest.is_empty(),
+        _ => text.iter().all(u8::is_ascii_digit),
+    };
+    if !well_formed {
+        return None;
+    }
+    std::str::from_utf8(text).ok()?.parse().ok()
+}
+
+/// How many slots there are: 1 to 32.
+fn slot_count(text: &[u8]) -> Option<usize> {
+    let slots = usize::try_from(number(text)?).ok()?;
+    (1..=ROOM).contains(&slots).then_some(slots)
+}
+
+fn operation(line: &[u8]) -> Option<Op> {
+    let [letter, b' ', slot @ ..] = line else {
+        return None;
+    };
+    let verb = match letter {
+        b'r' => Verb::Read,
+        b'w' => Verb::Write,
+        b's' => Verb::Step,
+        b'f' => Verb::Finish,
+        _ => return None,
+    };
+    let slot = usize::try_from(number(slot)?).ok()?;
+    (slot < ROOM).then_some(Op { verb, slot })
+}
+
+fn bench_line(line: &[u8]) -> Option<Task> {
+    let parts: Vec<&[u8]> = line.split(|&byte| byte == b' ').collect();
+    let [b"bench", lock, slots, steps] = parts[..] else {
+        return None;
+    };
+    let kind = kind(lock)?;
+    let (slots, steps) = (slot_count(slots)?, number(steps)?);
+    let work = Work::Bench { slots, steps };
+    Some(Task { kind, work })
+}
+
+/// Reads the whole input, or answers the number of the line, from 1, that
+/// can't be read. The last line's byte 10 may be left out.
+fn input(text: &[u8]) -> Result<Task, usize> {
+    let text = text.strip_suffix(b"\n").unwrap_or(text);
+    let mut lines = text.split(|&byte| byte == b'\n');
+    let first = lines.next().unwrap_or_default();
+    if let Some(kind) = kind(first) {
+        let ops = lines
+            .enumerate()
+            .map(|(at, line)| operation(line).ok_or(at + 2))
+            .collect::<Result<_, _>>()?;
+        let work = Work::Trace { ops };
+        return Ok(Task { kind, work });
+    }
+    let bench = bench_line(first).ok_or(1_usize)?;
+    match lines.next() {
+        None => Ok(bench),
+        Some(_) => Err(2),
     }
 }
 
-// ---- Random scripts. ----
+// ---------------------------------------------------------------------------
+// Making scripts
+// ---------------------------------------------------------------------------
 
-// A multiplicative generator of 64 bits, of which the upper half is used.
+/// A small seeded generator: a counter with a large odd stride, well mixed.
 struct Random(u64);
 
 impl Random {
-    fn below(&mut self, n: u32) -> u32 {
-        self.0 = self.0.wrapping_mul(6_364_136_223_846_793_005).wrapping_add(1_442_695_040_888_963_407);
-        let x = (self.0 >> 32) as u32;
-        ((u64::from(x ^ x >> 15) * u64::from(n)) >> 32) as u32
+    fn next(&mut self) -> u64 {
+        self.0 = self.0.wrapping_add(0x9e37_79b9_7f4a_7c15);
+        let mut mixed = self.0;
+        mixed = (mixed ^ (mixed >> 30)).wrapping_mul(0xbf58_476d_1ce4_e5b9);
+        mixed = (mixed ^ (mixed >> 27)).wrapping_mul(0x94d0_49bb_1331_11eb);
+        mixed ^ (mixed >> 31)
+    }
+
+    fn below(&mut self, bound: usize) -> usize {
+        (self.next() % bound as u64) as usize
+    }
+
+    fn pick<T: Copy>(&mut self, choices: &[T]) -> T {
+        choices[self.below(choices.len())]
     }
 }
 
-// Whether a step of the slot would leave it waiting.
-fn spins<M: Model>(lock: &M, slot: usize) -> bool {
-    let mut next = lock.clone();
-    next.step(slot);
-    lock.slots()[slot].phase() == "waits" && next.slots()[slot].phase() == "waits"
-}
-
-// A slot, drawn anew some times where it would only wait on.
-fn pick<M: Model>(random: &mut Random, lock: &M, slots: u32) -> usize {
-    let mut slot = random.below(slots) as usize;
-    for _ in 0..random.below(64) {
-        if !spins(lock, slot) { break; }
-        slot = random.below(slots) as usize;
-    }
-    slot
-}
-
-fn operation<M: Model>(random: &mut Random, lock: &M, slot: usize) -> char {
-    if random.below(20) == 0 {
-        return ['r', 'w', 's', 'f'][random.below(4) as usize];
-    }
-    let s = &lock.slots()[slot];
-    if s.idle() {
-        if random.below(3) == 0 { 'w' } else { 'r' }
-    } else if s.holds() {
-        if random.below(4) == 0 { 's' } else { 'f' }
-    } else {
-        's'
+/// An operation that the slot's phase asks for.
+fn sensible(phase: Phase, random: &mut Random) -> Verb {
+    match phase {
+        Phase::Idle => random.pick(&[Verb::Read, Verb::Read, Verb::Write]),
+        Phase::Holds => Verb::Finish,
+        Phase::Called | Phase::Waits | Phase::Leaves => Verb::Step,
     }
 }
 
-fn script<M: Model>(name: &str, slots: u32, ops: u64, seed: u64) -> String {
-    let mut random = Random(seed.wrapping_mul(0x9e37_79b9_7f4a_7c15));
-    random.below(1);
-    let mut lock = M::default();
-    let mut text = format!("{name}\n");
-    let mut printed = String::new();
-    for _ in 0..ops {
-        let slot = pick(&mut random, &lock, slots);
-        let line = format!("{} {slot}", operation(&mut random, &lock, slot));
-        operate(&mut lock, &line, &mut printed).expect("an operation");
-        printed.clear();
-        text.push_str(&line);
-        text.push('\n');
+/// An operation that is refused, or changes nothing, in this phase.
+fn nonsense(phase: Phase, random: &mut Random) -> Verb {
+    match phase {
+        Phase::Idle => random.pick(&[Verb::Step, Verb::Finish]),
+        Phase::Holds => random.pick(&[Verb::Read, Verb::Write, Verb::Step]),
+        Phase::Called | Phase::Waits | Phase::Leaves => {
+            random.pick(&[Verb::Read, Verb::Write, Verb::Finish])
+        }
     }
-    text
 }
 
-fn generate(words: &[&str]) -> Result<String, String> {
-    let number = |text: &str| text.parse::<u64>().map_err(|_| format!("no number: {text}"));
-    match *words {
-        ["script", name, slots, ops, seed] => {
-            let slots = number(slots)?;
-            if !(1..=ROOM as u64).contains(&slots) { return Err("slots are 1 to 32".to_string()); }
-            match name {
-                "plain" => Ok(script::<Plain>(name, slots as u32, number(ops)?, number(seed)?)),
-                "ticket" => Ok(script::<Ticket>(name, slots as u32, number(ops)?, number(seed)?)),
-                _ => Err(format!("no lock: {name}")),
+/// The first slot, from `start` and around, that does not merely spin.
+fn slot_that_moves<R: Rules>(lock: &Lock<R>, slots: usize, start: usize) -> usize {
+    (0..slots)
+        .map(|far| (start + far) % slots)
+        .find(|&slot| match lock.phase(slot) {
+            Phase::Idle | Phase::Holds => true,
+            Phase::Called | Phase::Waits | Phase::Leaves => lock.can_move_on(slot),
+        })
+        .unwrap_or(start)
+}
+
+/// Of 16 operations about one is nonsense, two are of any slot, so that some
+/// spin, and the others get on with a job.
+fn next_op<R: Rules>(lock: &Lock<R>, slots: usize, random: &mut Random) -> Op {
+    let any = random.below(slots);
+    match random.below(16) {
+        0 => Op {
+            verb: nonsense(lock.phase(any), random),
+            slot: any,
+        },
+        1 | 2 => Op {
+            verb: sensible(lock.phase(any), random),
+            slot: any,
+        },
+        _ => {
+            let slot = slot_that_moves(lock, slots, any);
+            Op {
+                verb: sensible(lock.phase(slot), random),
+                slot,
             }
         }
-        ["writes", name, jobs] => {
-            // Two steps bring a writer in where it takes a ticket first, and one where it doesn't.
-            let job = if name == "ticket" { "w 0\ns 0\ns 0\nf 0\ns 0\n" } else { "w 0\ns 0\nf 0\ns 0\n" };
-            Ok(format!("{name}\n{}", job.repeat(number(jobs)? as usize)))
-        }
-        _ => Err("usage: locks | locks script LOCK SLOTS OPS SEED | locks writes LOCK JOBS".to_string()),
     }
 }
 
-fn answer() -> Result<String, String> {
-    let words: Vec<String> = std::env::args().skip(1).collect();
-    if !words.is_empty() {
-        return generate(&words.iter().map(String::as_str).collect::<Vec<_>>());
+fn random_script<R: Rules>(
+    slots: usize,
+    ops: u64,
+    seed: u64,
+    out: &mut impl Write,
+) -> io::Result<()> {
+    let mut lock = Lock::<R>::fresh();
+    let mut random = Random(seed);
+    writeln!(out, "{}", R::NAME)?;
+    for _ in 0..ops {
+        let op = next_op(&lock, slots, &mut random);
+        lock.run(op);
+        writeln!(out, "{op}")?;
     }
-    let mut text = String::new();
-    std::io::stdin().read_to_string(&mut text).map_err(|e| e.to_string())?;
-    run(&text)
+    Ok(())
+}
+
+fn writes_script<R: Rules>(jobs: u64, out: &mut impl Write) -> io::Result<()> {
+    let mut lock = Lock::<R>::fresh();
+    writeln!(out, "{}", R::NAME)?;
+    for _ in 0..jobs {
+        let mut verb = Verb::Write;
+        loop {
+            let op = Op { verb, slot: 0 };
+            lock.run(op);
+            writeln!(out, "{op}")?;
+            verb = match lock.phase(0) {
+                Phase::Idle => break,
+                Phase::Holds => Verb::Finish,
+                Phase::Called | Phase::Waits | Phase::Leaves => Verb::Step,
+            };
+        }
+    }
+    Ok(())
+}
+
+// ---------------------------------------------------------------------------
+// The program
+// ---------------------------------------------------------------------------
+
+const USAGE: &str = "called as: locks | locks script LOCK SLOTS OPS SEED | locks writes LOCK JOBS";
+
+fn task(args: &[Vec<u8>]) -> Result<Task, String> {
+    if args.is_empty() {
+        let mut text = Vec::new();
+        io::stdin()
+            .read_to_end(&mut text)
+            .map_err(|error| format!("the input can't be read: {error}"))?;
+        input(&text).map_err(|line| format!("line {line} of the input can't be read"))
+    } else {
+        script_wanted(args).ok_or(USAGE.to_string())
+    }
+}
+
+/// The arguments that ask for a script.
+fn script_wanted(args: &[Vec<u8>]) -> Option<Task> {
+    let args: Vec<&[u8]> = args.iter().map(Vec::as_slice).collect();
+    let (lock, work) = match args[..] {
+        [b"script", lock, slots, ops, seed] => {
+            let slots = slot_count(slots)?;
+            let (ops, seed) = (number(ops)?, number(seed)?);
+            (lock, Work::Script { slots, ops, seed })
+        }
+        [b"writes", lock, jobs] => {
+            let jobs = number(jobs)?;
+            (lock, Work::Writes { jobs })
+        }
+        _ => return None,
+    };
+    let kind = kind(lock)?;
+    Some(Task { kind, work })
+}
+
+fn perform<R: Rules>(work: &Work) -> io::Result<()> {
+    let mut out = BufWriter::new(io::stdout().lock());
+    match *work {
+        Work::Trace { ref ops } => trace::<R>(ops, &mut out)?,
+        Work::Bench { slots, steps } => bench::<R>(slots, steps, &mut out)?,
+        Work::Script { slots, ops, seed } => random_script::<R>(slots, ops, seed, &mut out)?,
+        Work::Writes { jobs } => writes_script::<R>(jobs, &mut out)?,
+    }
+    out.flush()
+}
+
+fn run(args: &[Vec<u8>]) -> Result<(), String> {
+    let Task { kind, work } = task(args)?;
+    match kind {
+        Kind::Plain => perform::<Plain>(&work),
+        Kind::Ticket => perform::<Ticket>(&work),
+    }
+    .map_err(|error| format!("the output can't be written: {error}"))
 }
 
 fn main() -> ExitCode {
-    match answer() {
-        Ok(text) if std::io::stdout().write_all(text.as_bytes()).is_ok() => ExitCode::SUCCESS,
-        Ok(_) => ExitCode::FAILURE,
-        Err(why) => {
-            eprintln!("{why}");
+    let args: Vec<Vec<u8>> = std::env::args_os()
+        .skip(1)
+        .map(|arg| arg.into_encoded_bytes())
+        .collect();
+    match run(&args) {
+        Ok(()) => ExitCode::SUCCESS,
+        Err(message) => {
+            eprintln!("locks: {message}");
             ExitCode::FAILURE
         }
     }

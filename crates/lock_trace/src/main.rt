@@ -36,7 +36,8 @@ fn run<R: Clock>(clock: &R, heap: Global, text: &str) -> Result<String, AnyError
     match first {
         "plain" => Ok(trace::<PlainLock>(heap, read_script(heap, script)?.as_slice())?),
         "ticket" => Ok(trace::<TicketLock>(heap, read_script(heap, script)?.as_slice())?),
-        _ => bench(clock, heap, first),
+        _ if script.is_empty() => bench(clock, heap, first),
+        _ => Err("no lock in line 1".into()),
     }
 }
 
@@ -60,7 +61,7 @@ fn bench<R: Clock>(clock: &R, heap: Global, first: &str) -> Result<String, AnyEr
         words.next(),
         words.next(),
     ) else {
-        return Err("no lock and no bench in line 1".into());
+        return Err("no bench in line 1".into());
     };
     let slots = slots.parse::<usize>()?;
     let steps = steps.parse::<u64>()?;
