@@ -1,10 +1,11 @@
 -- How a lock lets its jobs on: a number that falls, over the lock's moves and the pieces of work left.
 use mathlib.Core.Path.{_≡_}
-use mathlib.Core.Bool.{Bool, true}
+use mathlib.Core.Bool.{Bool, true, false}
 use mathlib.Core.Logic.{_⊎_}
 use Prim.Native.Nat.{ℕ, suc, _+_, _*_, _≤_, _<_}
 use Rattle.lock.specs.Meaning.{Moved}
-use Rattle.lock.specs.declared.words.Phase.the-variants.{Idle, Waits, Holds, Leaves}
+use Rattle.lock.specs.declared.words.Phase.{Phase}
+use Rattle.lock.specs.declared.words.Phase.the-variants.{Idle, Called, Waits, Holds, Leaves}
 use Rattle.lock.specs.declared.words.Class.{Class}
 use Rattle.lock.specs.declared.meaning.Lock as lock
 

@@ -1,9 +1,11 @@
 -- The text of a script's lines.
 use mathlib.Core.Path.{_≡_}
 use mathlib.Core.Bool.{cond}
-use mathlib.Core.List.{List, [], _∷_}
+use mathlib.Core.List.{List, [], _∷_, _++_}
 use Prim.Native.Nat.{ℕ, _+_, _/_, _%_, _<_}
+use lib.Chars.{codes}
 use lib.Dec.{ltb}
+use Rattle.lock.specs.declared.words.Class.{Class}
 use Rattle.lock.specs.declared.words.Class.the-variants.{Reading, Writing}
 use Rattle.std.specs.declared.option.Option.{Option}
 use Rattle.std.specs.declared.option.Option.the-variants.{None, Some}

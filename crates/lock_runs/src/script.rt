@@ -1,4 +1,5 @@
 // The text of a script's line: one act of a slot.
+ghost use mathlib.Core.Path.{_≡_};
 ghost use Rattle.lock_runs.specs.Scripts.{Lettered, Numbered, Reads};
 use crate::act::Act;
 use crate::line::Line;

@@ -1,6 +1,6 @@
 // A number's decimal digits, in place and with no allocation.
 ghost use mathlib.Core.Path.{_≡_};
-ghost use Prim.Native.Nat.{_≤_};
+ghost use Prim.Native.Nat.{_≤_, _<_};
 ghost use lib.ListN.{length, drop};
 ghost use Rattle.std.specs.Written.{decimal};
 

@@ -1,18 +1,19 @@
 -- What is printed as a run goes from line to line.
-use mathlib.Core.Path.{_≡_, sym, ap, subst, _∙_}
+use mathlib.Core.Path.{_≡_, refl, sym, ap, subst, _∙_}
 use mathlib.Core.List.{List, [], _∷_, _++_, append-nil, append-assoc}
-use Prim.Native.Nat.{ℕ, _≤_}
+use Prim.Native.Nat.{ℕ, _≤_, _<_}
 use native.Mathlib.Omega.{arith}
 use lib.ListN.{length, take, drop, length-append}
 use Rattle.refusal.specs.declared.reason.Refusal.{Refusal}
 use Rattle.sheet_print.specs.Shown.{shown}
 use Rattle.sheet_text.specs.declared.form.Form.{Form}
 use Rattle.std.proofs.shelf.Lists.{take-at}
+use Rattle.std.specs.declared.result.Result.{Result}
 use Rattle.std.specs.declared.result.Result.the-variants.{Ok, Err}
 use Rattle.sheets.specs.declared.outcome.Outcome.{Outcome}
 use Rattle.sheets.specs.declared.outcome.Outcome.the-variants.{Answered, Faulted}
 use Rattle.sheets.specs.declared.state.Sheet.{Sheet}
-use Rattle.sheets.specs.Lines.{fresh, Judged, Runs-line, after, answer}
+use Rattle.sheets.specs.Lines.{fresh, Judged, Runs-line, after, answer, outcome}
 use Rattle.sheets.specs.Sheets.{Prints-lines, end, goes, fault, first-line, later-lines}
 
 -- n bytes at the output's front are the text w

@@ -1,7 +1,7 @@
 -- What one line does to a sheet's run, and what is printed of it.
 use mathlib.Core.Path.{_≡_}
-use mathlib.Core.Bool.{true, false, cond, _&&_}
-use mathlib.Core.List.{List, _++_}
+use mathlib.Core.Bool.{Bool, true, false, cond, _&&_}
+use mathlib.Core.List.{List, [], _∷_, _++_}
 use Prim.Native.Nat.{ℕ, _+_, min, _≤_, _<_}
 use lib.Dec.{leb}
 use lib.ListN.{length, drop}

@@ -1,5 +1,6 @@
 use mathlib.Core.Path.{_≡_, sym, ap, _∙_}
-use mathlib.Core.List.{_∷_, [], _++_, append-assoc}
+use mathlib.Core.List.{List, _∷_, [], _++_, append-assoc}
+use Prim.Native.Nat.{ℕ}
 use lib.Chars.{codes}
 use Rattle.std.specs.Written.{decimal}
 use Rattle.sheet_print.specs.Shown.{shown}

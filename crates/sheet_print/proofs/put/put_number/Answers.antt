@@ -2,7 +2,7 @@ use mathlib.Core.Path.{_≡_, ap, _∙_}
 use mathlib.Core.List.{List}
 use Prim.Native.Nat.{_+_, _-_}
 use native.Mathlib.Omega.{arith}
-use lib.ListN.{length}
+use lib.ListN.{length, take, drop}
 use Rattle.std.proofs.shelf.Decimals.{length-decimal-le}
 use Rattle.std.specs.Written.{decimal}
 use Rattle.std.specs.shelf.Lists.{paste}
