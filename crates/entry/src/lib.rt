@@ -1,4 +1,6 @@
 // Entry kinds: what a place of the book holds, what a job may give it, and how the two join.
+#![tactic(auto)]
+
 pub mod kind;
 pub mod leg;
 pub mod station;

@@ -1,4 +1,6 @@
 // What a reader-writer lock is, known by its meaning alone.
+#![tactic(auto)]
+
 pub mod fair;
 pub mod meaning;
 pub mod ordered;

@@ -1,4 +1,6 @@
 // Runs a lock by the lines of a script, with what is printed of each, or by a driver in which the slots take turns.
+#![tactic(auto)]
+
 pub mod act;
 pub mod drive;
 pub mod line;

@@ -1,4 +1,6 @@
 // Runs a script or a bench from standard input on a lock, and prints the answers and the words.
+#![tactic(auto)]
+
 ghost use Rattle.std.specs.Prelude.{◌≤◌};
 
 use anyhow::anyhow;

@@ -1,4 +1,6 @@
 // The plain lock's words, and what each move of a slot does to them.
+#![tactic(auto)]
+
 pub mod places;
 pub mod table;
 

@@ -1,4 +1,6 @@
 // The queue lock's words, and what each access of a slot does to them.
+#![tactic(auto)]
+
 pub mod late_wake;
 pub mod record;
 pub mod standing;

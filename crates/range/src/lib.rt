@@ -1,4 +1,6 @@
 // A stretch of consecutive places of a book.
+#![tactic(auto)]
+
 pub mod stretch;
 
 pub use stretch::Range;

@@ -1,4 +1,6 @@
 // Why a call is refused, and the number that a caller is shown for it.
+#![tactic(auto)]
+
 mod number;
 pub mod reason;
 

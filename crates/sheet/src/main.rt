@@ -1,4 +1,6 @@
 // Runs the sheet on standard input, and prints its answers to standard output.
+#![tactic(auto)]
+
 use sheets::run_sheet;
 use std::io::{Read, Write};
 

@@ -1,4 +1,6 @@
 // What a sheet's run prints: an answer for each line, put into an output that the caller hands over.
+#![tactic(auto)]
+
 pub mod answer;
 mod decimal;
 mod put;

@@ -1,4 +1,6 @@
 // The reader of one line of a sheet: the line's bytes, cut into parts, and the form that the parts make.
+#![tactic(auto)]
+
 mod cursor;
 pub mod form;
 mod read;

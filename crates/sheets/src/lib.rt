@@ -1,4 +1,6 @@
 // Runs a sheet: reads it line by line, does what each line asks, and prints an answer to each.
+#![tactic(auto)]
+
 pub mod outcome;
 pub mod run;
 pub mod state;

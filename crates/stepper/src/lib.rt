@@ -1,4 +1,6 @@
 // A book, a lock over it, and jobs that run one memory access at a time.
+#![tactic(auto)]
+
 pub mod bare;
 pub mod claim;
 mod job;

@@ -1,4 +1,6 @@
 // The stepper on examples: at its limits, and lone jobs by two locks.
+#![tactic(auto)]
+
 #[cfg(test)]
 mod asks;
 #[cfg(test)]

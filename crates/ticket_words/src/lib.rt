@@ -1,4 +1,6 @@
 // The ticket lock's words, and what each access of a slot does to them.
+#![tactic(auto)]
+
 pub mod counting;
 pub mod table;
 pub mod words;
