@@ -46,8 +46,8 @@ pub record Keeps (w : Words) (l : List ℕ) : Type 0 where
 pub sound_of : (s : QueueLock) → Keeps s.words (in_line s.line)
 sound_of s = record { full = s.full; sound = s.sound }
 
-pub ghosts : (w : Words) (l : List ℕ) → Keeps w l → Full w × (Sound (config w l) × Unit {0})
-ghosts w l h = (h.full, (h.sound, tt))
+pub ghosts : (w : Words) (l : List ℕ) → Keeps w l → record { full : Full w; sound : Sound (config w l) }
+ghosts w l h = record { full = h.full; sound = h.sound }
 
 pub carry : {w v : Words} {l m : List ℕ} → Keeps w l → v ≡ w → m ≡ l → Keeps v m
 carry {w} {v} {l} {m} h e f = subst (λ x. Keeps x m) (sym e) (subst (Keeps w) (sym f) h)

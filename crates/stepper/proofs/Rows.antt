@@ -21,6 +21,6 @@ set_sound places jobs i j l all new k =
 
 -- what an open book keeps of its table when slot i's row becomes j
 pub put_keeps : (places : ℕ) (jobs : List Job) (i : ℕ) (j : Job) (now : List Job) → now ≡ set jobs i j → i < 32 → length jobs ≡ 32 → AllSound places jobs → Sound places j
-    → (length now ≡ 32) × (AllSound places now × Unit {0})
+    → record { full : length now ≡ 32; sound : AllSound places now }
 put_keeps places jobs i j now e h full all new =
-    (ap length e ∙ simp length-set full, (subst (AllSound places) (sym e) (set_sound places jobs i j (omega arith) all new), tt))
+    record { full = ap length e ∙ simp length-set full; sound = subst (AllSound places) (sym e) (set_sound places jobs i j (omega arith) all new) }

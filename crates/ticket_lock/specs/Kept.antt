@@ -55,8 +55,16 @@ sound_of s = record {
 pub fit_at : {w : Words} {l : List ℕ} → Keeps w l → (i : ℕ) (x : Standing) → stands_at w i ≡ x → Fits x (kept_by w i) w.completions (readers_ahead (stands_at w) l i) (writers_ahead (stands_at w) l i)
 fit_at {w} {l} h i x e = subst (λ y. Fits y (kept_by w i) w.completions (readers_ahead (stands_at w) l i) (writers_ahead (stands_at w) l i)) e (h.sound.fits i)
 
-pub ghosts : (w : Words) (l : List ℕ) → Keeps w l → (length w.table.slots ≡ 32) × (Lined w l × (Requested w l × (Placed T2 w l × (Placed T5 w l × (Placed ReaderH w l × (Placed WriterH w l × Unit {0}))))))
-ghosts w l h = (h.full, (h.sound.lined, (h.sound.requested, ((λ i e. fit_at h i T2 e), ((λ i e. fit_at h i T5 e), ((λ i e. fit_at h i ReaderH e), ((λ i e. fit_at h i WriterH e), tt)))))))
+pub ghosts : (w : Words) (l : List ℕ) → Keeps w l → record { full : length w.table.slots ≡ 32; lined : Lined w l; requested : Requested w l; readers_wait : Placed T2 w l; writers_wait : Placed T5 w l; readers_hold : Placed ReaderH w l; writers_hold : Placed WriterH w l }
+ghosts w l h = record {
+  full = h.full;
+  lined = h.sound.lined;
+  requested = h.sound.requested;
+  readers_wait = λ i e. fit_at h i T2 e;
+  writers_wait = λ i e. fit_at h i T5 e;
+  readers_hold = λ i e. fit_at h i ReaderH e;
+  writers_hold = λ i e. fit_at h i WriterH e;
+}
 
 pub carry : {w v : Words} {l m : List ℕ} → Keeps w l → v ≡ w → m ≡ l → Keeps v m
 carry {w} {v} {l} {m} h e f = subst (λ x. Keeps x m) (sym e) (subst (Keeps w) (sym f) h)

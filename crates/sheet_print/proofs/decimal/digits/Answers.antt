@@ -6,8 +6,8 @@ use Rattle.sheet_print.proofs.decimal.digits.Goals as goal
 pub loop-rest-init : goal.loop-rest-init
 loop-rest-init c = (omega arith, refl, omega arith, length-decimal-le 10 _ (omega arith) (omega arith) (omega arith), append-nil _)
 
-pub overflow-sub-at-in-loop-rest : goal.overflow-sub-at-in-loop-rest
-overflow-sub-at-in-loop-rest c =
+pub overflow_sub-at-in-loop-rest : goal.overflow_sub-at-in-loop-rest
+overflow_sub-at-in-loop-rest c =
     let inv = c.loop-rest.invariant in
     omega (arith, length_step c.loop-rest.rest c.loop-rest-test.true (omega arith), decimal_nonempty (c.loop-rest.rest / 10) (omega arith))
 

@@ -9,5 +9,5 @@ returns c =
     let told = c.digits-start.ensures in
     let text = row_part c.digits-start.result.0 c.digits-start.result.1 c.args.n told.room told.shown in
     let short = length-decimal-le 10 c.args.n (omega arith) (omega arith) (omega arith) in
-    let end : c.put-text.result ≡ c.args.at + length (decimal c.args.n) = c.put-text.ensures.end ∙ ap (λ (l : List _). c.args.at + length l) text in
-    record { end = end; short = omega arith; put = c.put-text.ensures.put ∙ ap (λ (l : List _). paste c.args.out.now c.args.at l (length l)) text }
+    let end : c.put_text.result ≡ c.args.at + length (decimal c.args.n) = c.put_text.ensures.end ∙ ap (λ (l : List _). c.args.at + length l) text in
+    record { end = end; short = omega arith; put = c.put_text.ensures.put ∙ ap (λ (l : List _). paste c.args.out.now c.args.at l (length l)) text }

@@ -2,7 +2,7 @@ use Rattle.std.proofs.Common.{arith}
 use native.Mathlib.Numerals.{unary_clauses}
 use Rattle.sheet_text.proofs.Cuts.{no_cut_nil, cut_open, cut_close, cut_end, cut_word, cut_number, no_cut_number, no_cut_other, outside}
 use Rattle.sheet_text.proofs.scan.token.Goals as goal
-use Rattle.sheet_text.proofs.scan.token.Goals.{in-default-via-then-this-lt48, in-default-via-else-this-lt48+else-this-lt58+then-this-lt97, in-default-via-else-this-lt48+else-this-lt58+else-this-lt97+else-this-lt123}
+use Rattle.sheet_text.proofs.scan.token.Goals.{in_default-via-then-this-lt48, in_default-via-else-this-lt48+else-this-lt58+then-this-lt97, in_default-via-else-this-lt48+else-this-lt58+else-this-lt97+else-this-lt123}
 
 pub returns-then-s-eq0 : goal.returns-then-s-eq0
 returns-then-s-eq0 c = no_cut_nil _ c.if-s-eq0.true
@@ -23,14 +23,14 @@ returns-in-None c = no_cut_number _ c.if-s-eq0.false (omega arith, omega arith) 
 
 pub returns-in-a-to-z : goal.returns-in-a-to-z
 returns-in-a-to-z c =
-    let told = c.run-len-k.ensures in
-    cut_word c.args.s.now c.args.at c.run-len-k.result _ (simp unary_clauses) c.if-s-eq0.false (omega arith, omega arith) told.within told.all told.stops
+    let told = c.run_len-k.ensures in
+    cut_word c.args.s.now c.args.at c.run_len-k.result _ (simp unary_clauses) c.if-s-eq0.false (omega arith, omega arith) told.within told.all told.stops
 
-pub returns-in-default : goal.returns-in-default
-returns-in-default c =
+pub returns-in_default : goal.returns-in_default
+returns-in_default c =
     no_cut_other _ c.if-s-eq0.false
-    (outside _ (omega arith) (omega arith) (omega arith) (λ i. elim c.in-default.branch [ in-default-via-then-this-lt48 w ↦ omega (arith, i.0, i.1) | in-default-via-else-this-lt48+else-this-lt58+then-this-lt97 w ↦ omega (arith, i.0, i.1) | in-default-via-else-this-lt48+else-this-lt58+else-this-lt97+else-this-lt123 w ↦ omega (arith, i.0, i.1) ])
-    (λ i. elim c.in-default.branch [ in-default-via-then-this-lt48 w ↦ omega (arith, i.0, i.1) | in-default-via-else-this-lt48+else-this-lt58+then-this-lt97 w ↦ omega (arith, i.0, i.1) | in-default-via-else-this-lt48+else-this-lt58+else-this-lt97+else-this-lt123 w ↦ omega (arith, i.0, i.1) ]))
+    (outside _ (omega arith) (omega arith) (omega arith) (λ i. elim c.in_default.branch [ in_default-via-then-this-lt48 w ↦ omega (arith, i.0, i.1) | in_default-via-else-this-lt48+else-this-lt58+then-this-lt97 w ↦ omega (arith, i.0, i.1) | in_default-via-else-this-lt48+else-this-lt58+else-this-lt97+else-this-lt123 w ↦ omega (arith, i.0, i.1) ])
+    (λ i. elim c.in_default.branch [ in_default-via-then-this-lt48 w ↦ omega (arith, i.0, i.1) | in_default-via-else-this-lt48+else-this-lt58+then-this-lt97 w ↦ omega (arith, i.0, i.1) | in_default-via-else-this-lt48+else-this-lt58+else-this-lt97+else-this-lt123 w ↦ omega (arith, i.0, i.1) ]))
 
 pub returns-in-10 : goal.returns-in-10
 returns-in-10 c = cut_end _ _ c.if-s-eq0.false c.in-10.is

@@ -3,8 +3,8 @@ use Rattle.sheet_text.specs.Parts.{closing}
 use Rattle.sheet_text.proofs.Steps.{other_part}
 use Rattle.sheet_text.proofs.cursor.Cursor.close.Goals as goal
 
-pub returns-in-err-t : goal.returns-in-err-t
-returns-in-err-t c = rw c.from-residual.ensures (c.in-err-t.ensures closing)
+pub returns-in_err-t : goal.returns-in_err-t
+returns-in_err-t c = rw c.from_residual.ensures (c.in_err-t.ensures closing)
 
-pub returns-in-default : goal.returns-in-default
-returns-in-default c = other_part _ _ _ closing c.in-ok-t.ensures.0 (λ e. grind arith)
+pub returns-in_default : goal.returns-in_default
+returns-in_default c = other_part _ _ _ closing c.in_ok-t.ensures.0 (λ e. grind arith)

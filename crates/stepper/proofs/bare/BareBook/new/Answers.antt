@@ -8,8 +8,8 @@ loop-place-preserved g c =
     let empty = g.K.Kind.empty in
     let lt : i < length c.loop-place.book = omega arith in
     take_more_set _ i _ lt
-    ∙ ap (λ xs. xs ++ (c.empty-entry.result ∷ [])) c.loop-place.invariant
-    ∙ ap (λ y. replicate i empty ++ (y ∷ [])) c.empty-entry.ensures
+    ∙ ap (λ xs. xs ++ (c.empty_entry.result ∷ [])) c.loop-place.invariant
+    ∙ ap (λ y. replicate i empty ++ (y ∷ [])) c.empty_entry.ensures
     ∙ replicate_more i empty
 
 pub returns : goal.returns

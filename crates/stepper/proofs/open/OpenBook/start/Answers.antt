@@ -3,8 +3,8 @@ use Rattle.stepper.specs.Jobs.{AllSound}
 use Rattle.stepper.proofs.Rows.{none_sound}
 use Rattle.stepper.proofs.open.OpenBook.start.Goals as goal
 
-pub invariant-of-result : goal.invariant-of-result
-invariant-of-result g c =
+pub invariant_of-result : goal.invariant_of-result
+invariant_of-result g c =
     let e = c.none.ensures in
     let sized = c.requires.sized in
-    (c.requires.few, (ap length e, (subst (AllSound c.args.places) (sym e) (none_sound c.args.places sized.0 sized.1), tt)))
+    record { few = c.requires.few; full = ap length e; sound = subst (AllSound c.args.places) (sym e) (none_sound c.args.places sized.0 sized.1) }

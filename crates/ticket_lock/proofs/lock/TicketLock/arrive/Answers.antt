@@ -2,8 +2,8 @@ use Rattle.std.proofs.Common.{◌∙◌}
 use Rattle.ticket_lock.specs.Kept.{sound_of, ghosts, carry, step_keeps, called_moves, room}
 use Rattle.ticket_lock.proofs.lock.TicketLock.arrive.Goals as goal
 
-pub invariant-of-self : goal.invariant-of-self
-invariant-of-self c =
+pub invariant_of-self : goal.invariant_of-self
+invariant_of-self c =
     let s = sound_of c.args.self.now in
     let i = c.args.slot in
     ghosts _ _ (carry (step_keeps s i c.requires.0 (called_moves _ c.requires.1)) c.step.ensures (c.push.ensures ∙ room s i c.requires.0 c.requires.1))
