@@ -1,4 +1,5 @@
 mod Digits
 mod Sums
+mod QueueSums
 mod Traces
 mod Turns

@@ -4,7 +4,9 @@
 pub mod act;
 pub mod drive;
 pub mod line;
+pub mod mix;
 pub mod plain;
+pub mod queue;
 pub mod script;
 pub mod shown;
 pub mod ticket;

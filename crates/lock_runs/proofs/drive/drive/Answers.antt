@@ -10,10 +10,10 @@ loop-k-init g c = (omega arith, omega arith, omega arith, none)
 pub loop-k-preserved : goal.loop-k-preserved
 loop-k-preserved g c =
     let i = c.loop-k.invariant in
-    let d = turned g.L.Lock c.args.lock.now c.loop-k.lock c.turn.new.lock c.loop-k.-k c.loop-k.round c.args.slots c.loop-k.slot c.class_in.result i.0 i.2 c.class_in.ensures i.3 c.turn.ensures in
+    let d = turned g.L.Lock c.args.lock.now c.loop-k.lock c.turn.new.lock c.loop-k._k c.loop-k.round c.args.slots c.loop-k.slot c.class_in.result i.0 i.2 c.class_in.ensures i.3 c.turn.ensures in
     elim c.if-slot-slots.branch [
       | then-slot-slots w ↦
-          let m = round_more c.loop-k.-k c.loop-k.round c.args.slots c.loop-k.slot i.2 (omega arith) in
+          let m = round_more c.loop-k._k c.loop-k.round c.args.slots c.loop-k.slot i.2 (omega arith) in
           let r = ap (λ x. x * c.args.slots) w.round-is in
           (omega arith, omega arith, omega arith, d)
       | else-slot-slots w ↦

@@ -7,8 +7,8 @@ loop-line-init g c = begins g.L.Lock g.L.Shown.shows c.fresh-lock.result _ c.new
 
 pub loop-line-preserved : goal.loop-line-preserved
 loop-line-preserved g c =
-    let told = c.in-ok-trace-line.ensures in
-    goes g.L.Lock g.L.Shown.shows c.fresh-lock.result c.loop-line.lock c.trace-line.new.lock c.args.lines.now c.loop-line.line-index c.line-item.result (string_bytes c.loop-line.out) (string_bytes c.trace-line.new.out) c.loop-line-test.true c.line-item.is c.loop-line.invariant told.left told.out
+    let told = c.in_ok-trace_line.ensures in
+    goes g.L.Lock g.L.Shown.shows c.fresh-lock.result c.loop-line.lock c.trace_line.new.lock c.args.lines.now c.loop-line.line-index c.line-item.result (string_bytes c.loop-line.out) (string_bytes c.trace_line.new.out) c.loop-line-test.true c.line-item.is c.loop-line.invariant told.left told.out
 
 pub returns : goal.returns
 returns g c = record {

@@ -10,7 +10,7 @@ append-requires c = let told = c.in-Ok.ensures in (front (shown (Fault 0 c.numbe
 pub returns : goal.returns
 returns c =
     let told = c.in-Ok.ensures in
-    c.in-ok-append.ensures
+    c.in_ok-append.ensures
     ∙ ap (λ (l : List ℕ). l ++ take c.in-Ok.n c.print.new.out) c.new-out.ensures.items
     ∙ (front (shown (Fault 0 c.number.result)) _ c.print.new.out c.in-Ok.n told.1 told.2).is
     ∙ ap (λ (n : ℕ). shown (Fault 0 n)) c.number.ensures
