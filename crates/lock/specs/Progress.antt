@@ -1,8 +1,7 @@
 -- How a lock lets its jobs on: a number that falls, over the lock's moves and the pieces of work left.
-use Rattle.std.specs.Prelude.{◌≡◌, ℕ, suc, ◌+◌, ◌*◌, ◌<◌, ◌≤◌, Bool, true, false, ◌⊎◌, ◌≢◌}
+use Rattle.std.specs.Prelude.{◌≡◌, ℕ, suc, ◌+◌, ◌*◌, ◌<◌, ◌≤◌, Bool, true, ◌⊎◌, ◌≢◌}
 use Rattle.lock.specs.Meaning.{Moved}
-use Rattle.lock.specs.declared.words.Phase.{Phase}
-use Rattle.lock.specs.declared.words.Phase.TheVariants.{Idle, Called, Waits, Holds, Leaves}
+use Rattle.lock.specs.declared.words.Phase.TheVariants.{Idle, Waits, Holds, Leaves}
 use Rattle.lock.specs.declared.words.Class.{Class}
 use Rattle.lock.specs.declared.meaning.Lock as lock
 

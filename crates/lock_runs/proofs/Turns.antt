@@ -1,5 +1,5 @@
 -- The driver's counters are the operation's number, divided by the number of slots.
-use Rattle.std.proofs.Common.{◌≡◌, ℕ, ◌+◌, ◌*◌, ◌/◌, ◌%◌, ◌<◌, ◌≤◌, sym, ap, ◌∙◌, subst, mod-eq_of_lt, add-mul, one-mul, arith}
+use Rattle.std.proofs.Common.{◌≡◌, ℕ, ◌+◌, ◌*◌, ◌/◌, ◌%◌, ◌<◌, sym, ap, ◌∙◌, subst, mod-eq_of_lt, add-mul, one-mul, arith}
 use native.Mathlib.Nat.{div-eq_of_lt, mul-add-mod_self_right, mul-add-div_right}
 use Rattle.lock.specs.declared.meaning.Lock as lock
 use Rattle.lock.specs.declared.words.Class.{Class}

@@ -1,6 +1,5 @@
 -- The text of a script's lines.
-use Rattle.std.specs.Prelude.{◌≡◌, ℕ, ◌+◌, ◌/◌, ◌%◌, ◌<◌, cond, List, [], ◌∷◌, ◌++◌, Some, None, codes, Option, ◌≢◌, nat_lt}
-use Rattle.lock.specs.declared.words.Class.{Class}
+use Rattle.std.specs.Prelude.{◌≡◌, ℕ, ◌+◌, ◌/◌, ◌%◌, ◌<◌, cond, List, [], ◌∷◌, Some, None, Option, ◌≢◌, nat_lt}
 use Rattle.lock.specs.declared.words.Class.TheVariants.{Reading, Writing}
 use Rattle.lock_runs.specs.declared.act.Act.{Act}
 use Rattle.lock_runs.specs.declared.act.Act.TheVariants.{Call, Step, Finish}

@@ -1,11 +1,11 @@
 -- A call to write: the slot goes to W1. The bar is the one thing that has to be known.
-use Rattle.std.proofs.Common.{◌≡◌, ℕ, ◌-◌, ◌<◌, true, Some, sym, refl, ◌∙◌, arith}
+use Rattle.std.proofs.Common.{◌≡◌, ℕ, ◌<◌, true, Some, sym, refl, ◌∙◌, arith}
 use Rattle.std.proofs.lemmas.Bool.{both_ways, lt-ltb}
 use Rattle.queue_words.specs.declared.standing.Standing.TheVariants.{I, W1}
 use Rattle.queue_lock.specs.Sets as is
 use Rattle.queue_lock.specs.Config.{Config}
 use Rattle.queue_words.specs.Records.{relabelled}
-use Rattle.queue_lock.specs.Invariant.{Inv, In, has, owing, admitted, only, share_of, share, next_share}
+use Rattle.queue_lock.specs.Invariant.{Inv, In, share_of, share, next_share}
 use Rattle.queue_lock.specs.Rows.{Row, row, row_of}
 use Rattle.queue_lock.specs.Shares.{owing_kept, share_none}
 use Rattle.queue_lock.specs.Move.{moved, Roles, relabel, no_waking, no_unlinked}

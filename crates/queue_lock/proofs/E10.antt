@@ -1,10 +1,10 @@
 -- E10: a reader that left wakes its writer, and is idle.
-use Rattle.std.proofs.Common.{◌≡◌, ℕ, ◌+◌, ◌-◌, ◌<◌, true, false, Some, sym, refl, ap, ◌∙◌, subst, inl, inr, arith}
+use Rattle.std.proofs.Common.{◌≡◌, ℕ, ◌+◌, ◌<◌, true, false, Some, sym, refl, ap, ◌∙◌, subst, inl, inr, arith}
 use Rattle.std.proofs.lemmas.Bool.{cases_eq, both_ways, lt-ltb}
 use Rattle.queue_words.specs.declared.standing.Standing.TheVariants.{E10, I}
 use Rattle.queue_lock.specs.Sets as is
 use Rattle.queue_lock.specs.Config.{Config}
-use Rattle.queue_lock.specs.Invariant.{Inv, Alone, In, Waits, has, owes, owing, admitted, only, share_of, share, next_share}
+use Rattle.queue_lock.specs.Invariant.{Inv, Alone, In, Waits, has, owes, share_of, share, next_share}
 use Rattle.queue_lock.specs.Rows.{Row, row, row_of}
 use Rattle.queue_lock.specs.Lasts as last
 use Rattle.queue_words.specs.Records.{freed}

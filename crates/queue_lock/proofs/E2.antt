@@ -1,10 +1,10 @@
 -- E2: a reader in the way finds itself the tail, and takes itself off it; else it goes on to wait for its next.
-use Rattle.std.proofs.Common.{◌≡◌, ℕ, ◌+◌, ◌-◌, ◌<◌, true, false, Some, None, sym, refl, ap, ◌∙◌, inl, inr, arith}
+use Rattle.std.proofs.Common.{◌≡◌, ℕ, ◌+◌, ◌<◌, true, false, Some, None, sym, refl, ap, ◌∙◌, inl, inr, arith}
 use Rattle.std.proofs.lemmas.Bool.{cases_eq, both_ways, lt-ltb, cases_Bool}
 use Rattle.queue_words.specs.declared.standing.Standing.TheVariants.{E2, E6}
 use Rattle.queue_lock.specs.Sets as is
 use Rattle.queue_lock.specs.Config.{Config}
-use Rattle.queue_lock.specs.Invariant.{Inv, Tail, has, owing, admitted, only, share_of, share, AllAct}
+use Rattle.queue_lock.specs.Invariant.{Inv, Tail, has, share_of, share, AllAct}
 use Rattle.queue_lock.specs.Rows.{Row, row, row_of}
 use Rattle.queue_lock.specs.Facts as fact
 use Rattle.queue_lock.specs.Shares.{owing_kept}

@@ -1,15 +1,15 @@
 -- E5: a reader in the way makes the writer behind it the next writer.
-use Rattle.std.proofs.Common.{◌≡◌, ℕ, ◌+◌, ◌-◌, ◌<◌, true, false, Some, sym, refl, ap, ◌∙◌, subst, inl, inr, arith}
+use Rattle.std.proofs.Common.{◌≡◌, ℕ, ◌+◌, ◌<◌, true, false, Some, sym, refl, ap, ◌∙◌, subst, inl, inr, arith}
 use Rattle.std.proofs.lemmas.Bool.{cases_eq, both_ways, lt-ltb}
 use Rattle.queue_words.specs.declared.standing.Standing.TheVariants.{E5, E6}
 use Rattle.lock.specs.declared.words.Class.TheVariants.{Reading}
 use Rattle.queue_words.specs.declared.record.Successor.TheVariants.{Writer}
 use Rattle.queue_lock.specs.Sets as is
 use Rattle.queue_lock.specs.Config.{Config}
-use Rattle.queue_lock.specs.Invariant.{Inv, Front, Alone, Waits, Owed, owes, owing, admitted, only, share_of, share}
+use Rattle.queue_lock.specs.Invariant.{Inv, Front, Alone, Waits, Owed, owes, share_of, share}
 use Rattle.queue_lock.specs.Rows.{Row, row, row_of}
 use Rattle.queue_lock.specs.Lasts as last
-use Rattle.queue_lock.specs.Every.{implies, apart}
+use Rattle.queue_lock.specs.Every.{implies}
 use Rattle.queue_lock.specs.Facts as fact
 use Rattle.queue_lock.specs.Shares.{owing_next, owing_by}
 use Rattle.queue_lock.specs.Move.{moved, Roles, relabel, no_waking, no_unlinked, lasts, at_here, at_there, to_there}

@@ -1,9 +1,9 @@
 -- E8: a reader that left reads the count; 0 means that its writer is alone, and it asks for the word at E9.
-use Rattle.std.proofs.Common.{◌≡◌, ℕ, ◌+◌, ◌-◌, ◌<◌, sym, ◌∙◌, inl, inr, arith}
+use Rattle.std.proofs.Common.{◌≡◌, ℕ, ◌+◌, ◌<◌, sym, ◌∙◌, inl, inr, arith}
 use Rattle.std.proofs.lemmas.Bool.{both_ways, lt-ltb}
 use Rattle.queue_words.specs.declared.standing.Standing.TheVariants.{E8, E9}
 use Rattle.queue_lock.specs.Config.{Config}
-use Rattle.queue_lock.specs.Invariant.{Inv, In, owing, admitted, only, share_of, share}
+use Rattle.queue_lock.specs.Invariant.{Inv, In, share_of, share}
 use Rattle.queue_lock.specs.Rows.{Row, row, row_of}
 use Rattle.queue_lock.specs.Facts as fact
 use Rattle.queue_lock.specs.Shares.{owing_kept}

@@ -1,12 +1,12 @@
 -- E9: a reader that left finds its writer still next: the writer is taken from the word, to be woken.
-use Rattle.std.proofs.Common.{◌≡◌, ℕ, ◌+◌, ◌-◌, ◌<◌, true, Some, None, sym, refl, ◌∙◌, subst, inl, inr, arith}
+use Rattle.std.proofs.Common.{◌≡◌, ℕ, ◌+◌, ◌<◌, true, Some, None, sym, refl, ◌∙◌, subst, inl, inr, arith}
 use Rattle.std.proofs.lemmas.Bool.{both_ways, lt-ltb}
 use Rattle.queue_words.specs.declared.standing.Standing.TheVariants.{E9, E10}
 use Rattle.queue_lock.specs.Sets as is
 use Rattle.queue_lock.specs.Config.{Config}
-use Rattle.queue_lock.specs.Invariant.{Inv, Alone, Waits, owing, admitted, only, share_of, share}
+use Rattle.queue_lock.specs.Invariant.{Inv, Alone, Waits, share_of, share}
 use Rattle.queue_lock.specs.Rows.{Row, row, row_of}
-use Rattle.queue_lock.specs.Every.{implies, apart}
+use Rattle.queue_lock.specs.Every.{implies}
 use Rattle.queue_lock.specs.Shares.{owing_kept}
 use Rattle.queue_lock.specs.Name.{named, Names, name}
 use Rattle.queue_lock.specs.Move.{moved, Roles, no_unlinked}

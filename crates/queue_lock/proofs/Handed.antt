@@ -1,7 +1,7 @@
 -- Steps that write another slot's record: they note what stands behind it, link behind it, or wake it.
 use Rattle.std.proofs.Common.{◌≡◌, ℕ, true, false, cond, ◌⊎◌, Some, None, sym, refl, ap, ◌∙◌, subst, inl, inr}
 use Rattle.std.proofs.lemmas.Bool.{both_ways}
-use Rattle.queue_words.specs.Records.{relabelled, freed, noted, linked}
+use Rattle.queue_words.specs.Records.{relabelled, freed, linked}
 use Rattle.queue_words.specs.declared.record.Record.{Record}
 use Rattle.queue_words.specs.declared.record.Successor.{Successor}
 use Rattle.queue_words.specs.declared.record.Successor.TheVariants.{Nobody}

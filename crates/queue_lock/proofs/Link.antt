@@ -1,10 +1,10 @@
 -- A slot's next is set: what has to hold of that slot and of the one named.
-use Rattle.std.proofs.Common.{◌≡◌, ℕ, ◌-◌, ◌<◌, true, false, Some, refl, ap, ◌∙◌, subst, inl, arith}
+use Rattle.std.proofs.Common.{◌≡◌, ℕ, ◌<◌, true, false, Some, refl, ap, ◌∙◌, subst, inl, arith}
 use Rattle.std.proofs.lemmas.Bool.{both_ways}
 use Rattle.queue_words.specs.declared.record.Record.{Record}
 use Rattle.queue_lock.specs.Sets as is
 use Rattle.queue_lock.specs.Config.{Config}
-use Rattle.queue_lock.specs.Invariant.{Inv, Owed, Next, has, owes, owing, admitted, only, share_of, share, next_share}
+use Rattle.queue_lock.specs.Invariant.{Inv, Owed, Next, owes, share_of, share, next_share}
 use Rattle.queue_words.specs.Records.{linked}
 use Rattle.queue_lock.specs.Facts as fact
 use Rattle.queue_lock.specs.Shares.{share_apart}

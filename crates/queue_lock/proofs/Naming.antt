@@ -6,7 +6,7 @@ use Rattle.queue_words.specs.declared.standing.Standing.{Standing}
 use Rattle.queue_words.specs.declared.standing.Standing.TheVariants.{W2, W3, W4, W5, W8, E5, E6, E9, E10}
 use Rattle.queue_lock.specs.Sets as is
 use Rattle.queue_lock.specs.Config.{Config}
-use Rattle.queue_lock.specs.Invariant.{Inv, Front, Act, admitted, owes}
+use Rattle.queue_lock.specs.Invariant.{Inv, Front, Act, owes}
 use Rattle.queue_lock.specs.Tended.{Tended}
 use Rattle.queue_lock.specs.Alter as alter
 use Rattle.queue_lock.proofs.Calm.{tended, here, owes_here}

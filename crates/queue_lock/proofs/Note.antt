@@ -1,10 +1,10 @@
 -- A slot is noted behind another: what has to hold of that other.
-use Rattle.std.proofs.Common.{◌≡◌, ℕ, ◌-◌, ◌<◌, true, Some, None, refl, ap, ◌∙◌, subst, inl, arith}
+use Rattle.std.proofs.Common.{◌≡◌, ℕ, ◌<◌, true, Some, None, refl, ap, ◌∙◌, subst, inl, arith}
 use Rattle.std.proofs.lemmas.Bool.{both_ways}
 use Rattle.queue_words.specs.declared.record.Successor.TheVariants.{Reader, Writer}
 use Rattle.queue_lock.specs.Sets as is
 use Rattle.queue_lock.specs.Config.{Config}
-use Rattle.queue_lock.specs.Invariant.{Inv, has, owing, admitted, only, share_of, share, next_share}
+use Rattle.queue_lock.specs.Invariant.{Inv, has, share_of, share, next_share}
 use Rattle.queue_words.specs.declared.record.Successor.{Successor}
 use Rattle.queue_words.specs.Records.{noted}
 use Rattle.queue_lock.specs.Facts as fact

@@ -1,5 +1,5 @@
 -- A plain step: the new standing asks nothing that the old one did not give. One computed test of the two standings, and no field to write.
-use Rattle.std.proofs.Common.{◌≡◌, ℕ, zero, suc, ◌-◌, Bool, true, false, cond, List, [], ◌∷◌, get_or, Some, sym, refl, ◌∙◌}
+use Rattle.std.proofs.Common.{◌≡◌, ℕ, zero, suc, Bool, true, false, cond, List, [], ◌∷◌, get_or, Some, sym, refl, ◌∙◌}
 use Rattle.std.proofs.lemmas.Bool.{both_ways}
 use Rattle.queue_words.specs.declared.standing.Standing.{Standing}
 use Rattle.queue_words.specs.declared.standing.Standing.TheVariants.{I, W3, W8, R2, R9, R12, R13, E1, E2, V1, V2, E6, E7, E8, E4, V4, V6}
@@ -7,7 +7,7 @@ use Rattle.lock.specs.declared.words.Class.TheVariants.{Reading, Writing}
 use Rattle.queue_lock.specs.Sets as is
 use Rattle.queue_lock.specs.Config.{Config}
 use Rattle.queue_words.specs.Records.{relabelled}
-use Rattle.queue_lock.specs.Invariant.{Inv, Own, Front, Alone, In, owing, admitted, only}
+use Rattle.queue_lock.specs.Invariant.{Inv, Own, Front, Alone, In, admitted, only}
 use Rattle.queue_lock.specs.Rows.{Row, row, row_of}
 use Rattle.queue_lock.specs.Shares.{owing_kept}
 use Rattle.queue_lock.specs.Move.{Roles, no_waking, no_unlinked}

@@ -1,5 +1,5 @@
 -- R2: a reader that finds nobody before it counts itself.
-use Rattle.std.proofs.Common.{◌≡◌, ℕ, ◌+◌, ◌-◌, ◌<◌, refl, arith}
+use Rattle.std.proofs.Common.{◌≡◌, ℕ, ◌+◌, ◌<◌, refl, arith}
 use Rattle.queue_words.specs.declared.standing.Standing.TheVariants.{R2, R9}
 use Rattle.queue_lock.specs.Config.{Config}
 use Rattle.queue_lock.specs.Invariant.{Inv, share_of, share}

@@ -1,12 +1,12 @@
 -- R9: a reader at the front switches its own block off: standing and block change at once, by the frame for any new record.
-use Rattle.std.proofs.Common.{◌≡◌, ℕ, ◌+◌, ◌-◌, ◌<◌, true, sym, refl, ◌∙◌, inl, inr, arith}
+use Rattle.std.proofs.Common.{◌≡◌, ℕ, ◌+◌, ◌<◌, true, sym, refl, ◌∙◌, inl, inr, arith}
 use Rattle.std.proofs.lemmas.Bool.{both_ways}
 use Rattle.queue_words.specs.declared.standing.Standing.TheVariants.{R9, R10}
 use Rattle.lock.specs.declared.words.Class.TheVariants.{Reading}
 use Rattle.queue_words.specs.declared.record.Record.{Record}
 use Rattle.queue_lock.specs.Config.{Config}
 use Rattle.queue_words.specs.Records.{relabelled}
-use Rattle.queue_lock.specs.Invariant.{Inv, owes, owing, admitted, only, share_of, share}
+use Rattle.queue_lock.specs.Invariant.{Inv, owes, share_of, share}
 use Rattle.queue_lock.specs.Rows.{Row, row, row_of}
 use Rattle.queue_words.specs.Records.{freed}
 use Rattle.queue_lock.specs.Facts as fact

@@ -7,7 +7,7 @@ use Rattle.queue_words.specs.declared.record.Record.{Record}
 use Rattle.queue_words.specs.declared.standing.Standing.{Standing}
 use Rattle.queue_lock.specs.Sets as is
 use Rattle.queue_lock.specs.Config.{Config}
-use Rattle.queue_lock.specs.Invariant.{Inv, has, owes}
+use Rattle.queue_lock.specs.Invariant.{Inv, owes}
 use Rattle.queue_lock.specs.Tended.{Tended}
 use Rattle.queue_lock.specs.Alter as alter
 use Rattle.queue_lock.specs.Arrive.{arrived}

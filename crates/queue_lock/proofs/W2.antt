@@ -1,12 +1,12 @@
 -- W2: a writer that found nobody before it makes itself the next writer.
-use Rattle.std.proofs.Common.{◌≡◌, ℕ, ◌+◌, ◌-◌, ◌<◌, true, Some, sym, refl, ◌∙◌, subst, inl, inr, arith}
+use Rattle.std.proofs.Common.{◌≡◌, ℕ, ◌+◌, ◌<◌, true, Some, sym, refl, ◌∙◌, subst, inl, inr, arith}
 use Rattle.std.proofs.lemmas.Bool.{cases_eq, both_ways}
 use Rattle.queue_words.specs.declared.standing.Standing.TheVariants.{W2, W3}
 use Rattle.lock.specs.declared.words.Class.TheVariants.{Writing}
 use Rattle.queue_lock.specs.Sets as is
 use Rattle.queue_lock.specs.Config.{Config}
 use Rattle.queue_words.specs.Records.{relabelled}
-use Rattle.queue_lock.specs.Invariant.{Inv, Front, Waits, owing, admitted, only, share_of, share}
+use Rattle.queue_lock.specs.Invariant.{Inv, Front, Waits, share_of, share}
 use Rattle.queue_lock.specs.Rows.{Row, row, row_of}
 use Rattle.queue_lock.specs.Lasts as last
 use Rattle.queue_lock.specs.Facts as fact

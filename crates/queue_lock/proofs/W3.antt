@@ -1,9 +1,9 @@
 -- W3: a writer reads the count; 0 makes it the only one, any other count makes it wait.
-use Rattle.std.proofs.Common.{◌≡◌, ℕ, ◌+◌, ◌-◌, ◌<◌, refl, arith}
+use Rattle.std.proofs.Common.{◌≡◌, ℕ, ◌+◌, ◌<◌, refl, arith}
 use Rattle.std.proofs.lemmas.Bool.{both_ways}
 use Rattle.queue_words.specs.declared.standing.Standing.TheVariants.{W3, W4, W8}
 use Rattle.queue_lock.specs.Config.{Config}
-use Rattle.queue_lock.specs.Invariant.{Inv, only, share_of, share}
+use Rattle.queue_lock.specs.Invariant.{Inv, share_of, share}
 use Rattle.queue_lock.specs.Rows.{row, row_of}
 use Rattle.queue_lock.specs.Facts.{empty_alone}
 use Rattle.queue_lock.specs.Move.{moved, Roles, relabel}

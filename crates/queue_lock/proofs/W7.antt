@@ -1,5 +1,5 @@
 -- W7: a writer links itself behind its predecessor, and waits.
-use Rattle.std.proofs.Common.{◌≡◌, ℕ, ◌-◌, ◌<◌, true, false, Some, sym, refl, ap, ◌∙◌, inl, inr, arith}
+use Rattle.std.proofs.Common.{◌≡◌, ℕ, ◌<◌, true, false, Some, sym, refl, ap, ◌∙◌, inl, inr, arith}
 use Rattle.std.proofs.lemmas.Bool.{cases_eq, both_ways}
 use Rattle.queue_words.specs.declared.standing.Standing.TheVariants.{W7, W8, I}
 use Rattle.lock.specs.declared.words.Class.TheVariants.{Writing}
@@ -7,7 +7,7 @@ use Rattle.queue_words.specs.declared.record.Successor.TheVariants.{Reader}
 use Rattle.queue_lock.specs.Sets as is
 use Rattle.queue_lock.specs.Config.{Config}
 use Rattle.queue_words.specs.Records.{relabelled}
-use Rattle.queue_lock.specs.Invariant.{Inv, Behind, Owed, owing, admitted, only, share_of, share, next_share}
+use Rattle.queue_lock.specs.Invariant.{Inv, Behind, Owed, share_of, share, next_share}
 use Rattle.queue_lock.specs.Rows.{Row, row, row_of}
 use Rattle.queue_words.specs.Records.{linked}
 use Rattle.queue_lock.specs.Facts as fact

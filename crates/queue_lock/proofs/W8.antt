@@ -1,9 +1,9 @@
 -- W8 with its block off: the slot holds.
-use Rattle.std.proofs.Common.{◌≡◌, ℕ, ◌+◌, ◌-◌, ◌<◌, false, arith}
+use Rattle.std.proofs.Common.{◌≡◌, ℕ, ◌+◌, ◌<◌, false, arith}
 use Rattle.queue_words.specs.declared.standing.Standing.TheVariants.{W8, WriterH}
 use Rattle.lock.specs.declared.words.Class.TheVariants.{Writing}
 use Rattle.queue_lock.specs.Config.{Config}
-use Rattle.queue_lock.specs.Invariant.{Inv, owing, admitted, only, share_of, share}
+use Rattle.queue_lock.specs.Invariant.{Inv, share_of, share}
 use Rattle.queue_lock.specs.Rows.{row, row_of}
 use Rattle.queue_lock.specs.Shares.{owing_writer}
 use Rattle.queue_lock.specs.Move.{moved, Roles, relabel, no_waking, no_unlinked}

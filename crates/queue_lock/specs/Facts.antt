@@ -1,5 +1,5 @@
 -- Small consequences of the invariant: what stands in line, the frontier, and an empty count.
-use Rattle.std.specs.Prelude.{◌≡◌, ℕ, suc, ◌-◌, ◌<◌, ◌≤◌, Bool, true, false, cond, ◌⊎◌, Some, None, Option, ◌≢◌, refl}
+use Rattle.std.specs.Prelude.{◌≡◌, ℕ, suc, ◌<◌, ◌≤◌, Bool, true, false, cond, ◌⊎◌, Some, None, Option, ◌≢◌, refl}
 use Rattle.std.proofs.Common.{sym, ap, subst, ◌∙◌, inl, inr, arith}
 use Rattle.std.proofs.lemmas.Bool.{both_ways, cases_order, ltb-true, lt-ltb, cases_Bool, cases_lt}
 use Rattle.queue_words.specs.declared.standing.Standing.{Standing}
@@ -10,7 +10,7 @@ use Rattle.queue_words.specs.declared.record.Record.{Record}
 use Rattle.queue_lock.specs.Sets as is
 use Rattle.queue_lock.specs.Places.{pos}
 use Rattle.queue_lock.specs.Config.{Config}
-use Rattle.queue_lock.specs.Invariant.{Inv, Front, Alone, Act, In, Next, has, owes, owing, Pair, share_of, share, next_share}
+use Rattle.queue_lock.specs.Invariant.{Inv, Front, Alone, Act, In, Next, has, owes, Pair, share_of, share, next_share}
 use Rattle.queue_lock.specs.Every.{every, for_all, implies, apart}
 use Rattle.queue_lock.specs.PlacesLemmas.{pos_inj, first_of}
 use Rattle.queue_lock.specs.Sums.{total_at}

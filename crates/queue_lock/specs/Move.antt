@@ -1,5 +1,5 @@
 -- A slot moves to another standing, and the count changes with its share: what has to hold of that slot.
-use Rattle.std.specs.Prelude.{◌≡◌, ℕ, ◌+◌, ◌-◌, ◌<◌, true, false, Some, None, ◌≢◌, refl}
+use Rattle.std.specs.Prelude.{◌≡◌, ℕ, ◌+◌, ◌<◌, true, false, Some, None, ◌≢◌, refl}
 use Rattle.std.proofs.Common.{ap, ◌∙◌, inl, inr}
 use Rattle.std.proofs.lemmas.Bool.{both_ways}
 use Rattle.queue_words.specs.declared.standing.Standing.{Standing}
@@ -9,7 +9,7 @@ use Rattle.queue_words.specs.declared.record.Record.{Record}
 use Rattle.queue_lock.specs.Sets as is
 use Rattle.queue_lock.specs.Config.{Config}
 use Rattle.queue_words.specs.Records.{relabelled}
-use Rattle.queue_lock.specs.Invariant.{Inv, Own, Front, Alone, In, Waits, Behind, Next, has, owes, owing, admitted, only, share_of, share}
+use Rattle.queue_lock.specs.Invariant.{Inv, Own, Front, Alone, In, Waits, Behind, Next, owes, admitted, only, share_of}
 use Rattle.queue_lock.specs.Lasts as last
 use Rattle.queue_lock.specs.Facts.{owed_apart}
 use Rattle.queue_lock.specs.Alter as alter

@@ -1,9 +1,9 @@
 -- The next writer or the tail changes, and no record: what has to hold.
-use Rattle.std.specs.Prelude.{◌≡◌, ℕ, ◌-◌, true, false, ◌⊎◌, Some, None, Option, ◌≢◌, refl}
+use Rattle.std.specs.Prelude.{◌≡◌, ℕ, true, false, ◌⊎◌, Some, None, Option, ◌≢◌, refl}
 use Rattle.std.proofs.Common.{sym, subst, inl, inr, arith}
 use Rattle.queue_lock.specs.Sets as is
 use Rattle.queue_lock.specs.Config.{Config}
-use Rattle.queue_lock.specs.Invariant.{Inv, Front, Alone, Act, Waits, has, owes, AllAct}
+use Rattle.queue_lock.specs.Invariant.{Inv, Front, Alone, Act, Waits, owes, AllAct}
 use Rattle.queue_lock.specs.Lasts as last
 use Rattle.queue_lock.specs.Alter.{Asked}
 

@@ -9,7 +9,7 @@ use Rattle.lock.specs.declared.words.Class.TheVariants.{Reading, Writing}
 use Rattle.queue_words.specs.declared.record.Successor.TheVariants.{Reader}
 use Rattle.queue_lock.specs.Sets as is
 use Rattle.queue_lock.specs.Config.{Config}
-use Rattle.queue_lock.specs.Invariant.{Inv, Front, In, Waits, Owed, owes, owing, admitted, only, share_of, share, next_share}
+use Rattle.queue_lock.specs.Invariant.{Inv, Front, In, Waits, Owed, owes, share_of, share, next_share}
 use Rattle.queue_lock.specs.Rows.{Row, row, row_of}
 use Rattle.queue_lock.specs.Lasts as last
 use Rattle.queue_words.specs.Records.{freed}

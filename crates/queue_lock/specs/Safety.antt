@@ -1,5 +1,5 @@
 -- The fresh lock is sound, and what the invariant says of a slot that begins to hold.
-use Rattle.std.specs.Prelude.{◌≡◌, ℕ, ◌-◌, Bool, true, false, [], Some, None, ◌≢◌, refl}
+use Rattle.std.specs.Prelude.{◌≡◌, ℕ, Bool, true, false, [], Some, None, ◌≢◌, refl}
 use Rattle.std.proofs.Common.{sym, subst, inl, inr, arith}
 use Rattle.std.proofs.lemmas.Bool.{both_ways, cases_order}
 use Rattle.queue_words.specs.declared.standing.Standing.TheVariants.{I, W8, R10, WriterH}

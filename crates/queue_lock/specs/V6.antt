@@ -10,7 +10,7 @@ use Rattle.lock.specs.declared.words.Class.TheVariants.{Writing}
 use Rattle.queue_lock.specs.Sets as is
 use Rattle.queue_lock.specs.Config.{Config}
 use Rattle.queue_words.specs.Records.{relabelled}
-use Rattle.queue_lock.specs.Invariant.{Inv, Alone, In, Owed, owes, owing, admitted, only, share_of, share, next_share, one_if}
+use Rattle.queue_lock.specs.Invariant.{Inv, Alone, In, Owed, owes, share_of, share, next_share, one_if}
 use Rattle.queue_lock.specs.Rows.{Row, row, row_of}
 use Rattle.queue_lock.specs.Lasts as last
 use Rattle.queue_words.specs.Records.{freed}

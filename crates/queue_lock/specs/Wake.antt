@@ -1,12 +1,12 @@
 -- A slot's block goes off: what has to hold of that slot.
-use Rattle.std.specs.Prelude.{◌≡◌, ℕ, ◌+◌, ◌-◌, ◌<◌, true, false, Some, ◌≢◌}
+use Rattle.std.specs.Prelude.{◌≡◌, ℕ, ◌+◌, ◌<◌, true, false, Some, ◌≢◌}
 use Rattle.std.proofs.Math.Path.{refl}
 use Rattle.std.proofs.Common.{inr}
 use Rattle.std.proofs.lemmas.Bool.{both_ways}
 use Rattle.lock.specs.declared.words.Class.TheVariants.{Writing}
 use Rattle.queue_lock.specs.Sets as is
 use Rattle.queue_lock.specs.Config.{Config}
-use Rattle.queue_lock.specs.Invariant.{Inv, Front, Alone, has, owes, owing, admitted, only, share_of}
+use Rattle.queue_lock.specs.Invariant.{Inv, Front, Alone, owes, share_of}
 use Rattle.queue_words.specs.Records.{freed}
 use Rattle.queue_lock.specs.Every.{apart}
 use Rattle.queue_lock.specs.Facts.{owed_apart}

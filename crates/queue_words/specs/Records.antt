@@ -1,10 +1,10 @@
 -- The table of records, and what an access writes of one.
 use Rattle.std.specs.Prelude.{ℕ, true, false, List, Some, None, Option, slice_index_or}
 use Rattle.lock.specs.declared.words.Class.{Class}
-use Rattle.lock.specs.declared.words.Class.TheVariants.{Reading, Writing}
+use Rattle.lock.specs.declared.words.Class.TheVariants.{Reading}
 use Rattle.queue_words.specs.declared.record.Record.{Record}
 use Rattle.queue_words.specs.declared.record.Successor.{Successor}
-use Rattle.queue_words.specs.declared.record.Successor.TheVariants.{Nobody, Reader, Writer}
+use Rattle.queue_words.specs.declared.record.Successor.TheVariants.{Nobody}
 use Rattle.queue_words.specs.declared.standing.Standing.{Standing}
 use Rattle.queue_words.specs.declared.standing.Standing.TheVariants.{I}
 

@@ -1,5 +1,5 @@
 -- What each access does: the words that a step of a slot leaves, label by label.
-use Rattle.std.specs.Prelude.{ℕ, zero, suc, ◌+◌, ◌-◌, ◌%◌, ◌^◌, Bool, true, false, cond, replicate, Some, None, Option, ◌==◌, slice_set}
+use Rattle.std.specs.Prelude.{ℕ, ◌+◌, ◌-◌, ◌%◌, ◌^◌, Bool, true, false, cond, replicate, Some, None, Option, ◌==◌, slice_set}
 use Rattle.lock.specs.declared.words.Class.{Class}
 use Rattle.lock.specs.declared.words.Class.TheVariants.{Reading, Writing}
 use Rattle.queue_words.specs.Records.{unused, record_at, relabelled, freed, noted, linked, keeping, filled}

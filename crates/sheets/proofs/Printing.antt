@@ -1,5 +1,5 @@
 -- What is printed as a run goes from line to line.
-use Rattle.std.proofs.Common.{◌≡◌, ℕ, ◌<◌, ◌≤◌, List, [], ◌∷◌, ◌++◌, length, take, drop, Ok, Err, Result, sym, refl, ap, ◌∙◌, subst, append_assoc, append-nil, arith, length-append}
+use Rattle.std.proofs.Common.{◌≡◌, ℕ, ◌≤◌, List, [], ◌∷◌, ◌++◌, length, take, drop, Ok, Err, sym, ap, ◌∙◌, subst, append_assoc, append-nil, arith, length-append}
 use Rattle.refusal.specs.declared.reason.Refusal.{Refusal}
 use Rattle.sheet_print.specs.Shown.{shown}
 use Rattle.sheet_text.specs.declared.form.Form.{Form}
@@ -7,7 +7,7 @@ use Rattle.std.proofs.lemmas.List.{take_at}
 use Rattle.sheets.specs.declared.outcome.Outcome.{Outcome}
 use Rattle.sheets.specs.declared.outcome.Outcome.TheVariants.{Answered, Faulted}
 use Rattle.sheets.specs.declared.state.Sheet.{Sheet}
-use Rattle.sheets.specs.Lines.{fresh, Judged, RunsLine, after, answer, outcome}
+use Rattle.sheets.specs.Lines.{fresh, Judged, RunsLine, after, answer}
 use Rattle.sheets.specs.Sheets.{PrintsLines, end, goes, fault, first_line, later_lines}
 
 -- n bytes at the output's front are the text w

@@ -1,5 +1,5 @@
 -- A line that was accepted and printed.
-use Rattle.std.proofs.Common.{◌≡◌, ℕ, ◌≤◌, List, ◌++◌, length, drop, Ok, sym, refl, ap, ◌∙◌}
+use Rattle.std.proofs.Common.{◌≡◌, ℕ, ◌≤◌, List, ◌++◌, length, drop, Ok, ap, ◌∙◌}
 use Rattle.sheet_print.specs.Shown.{shown}
 use Rattle.sheet_print.specs.declared.answer.Answer.{Answer}
 use Rattle.sheet_text.specs.declared.form.Form.{Form}

@@ -1,4 +1,4 @@
-use Rattle.std.proofs.Common.{◌≡◌, ℕ, List, [], ◌∷◌, ◌++◌, codes, decimal, sym, ap, ◌∙◌, append_assoc}
+use Rattle.std.proofs.Common.{◌≡◌, [], ◌∷◌, ◌++◌, codes, decimal, sym, ap, ◌∙◌, append_assoc}
 use Rattle.sheet_print.specs.Shown.{shown}
 use Rattle.sheet_print.specs.declared.answer.Answer.TheVariants.{Opened, Fault}
 use Rattle.sheet_print.proofs.Fronts.{none, more, printed}

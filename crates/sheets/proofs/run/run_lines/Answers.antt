@@ -1,4 +1,4 @@
-use Rattle.std.proofs.Common.{◌≡◌, refl, ◌∙◌, arith, length-drop, length-take}
+use Rattle.std.proofs.Common.{refl, ◌∙◌, arith, length-drop, length-take}
 use native.Mathlib.Numerals.{unary_clauses}
 use Rattle.std.proofs.lemmas.List.{take_rest}
 use Rattle.sheets.proofs.Printing.{start, answered, faulted, one_line_more, last_line, at_sheets_end}

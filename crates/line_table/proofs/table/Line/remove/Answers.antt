@@ -1,4 +1,4 @@
-use Rattle.std.proofs.Common.{◌≡◌, ℕ, ◌+◌, ◌<◌, ◌≤◌, List, length, get_or, take, set, sym, refl, ap, ◌∙◌, subst, arith, length-set, rules}
+use Rattle.std.proofs.Common.{◌≡◌, ℕ, List, length, get_or, take, set, refl, ap, ◌∙◌, arith, length-set, rules}
 use Rattle.line_table.proofs.Rest.{moves_up, drops_out, behind, front_end}
 use Rattle.line_table.proofs.table.Line.remove.Goals as goal
 use Rattle.line_table.proofs.table.Line.remove.Goals.{then-other-slot, else-other-slot}

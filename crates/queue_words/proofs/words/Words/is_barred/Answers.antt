@@ -1,4 +1,4 @@
-use Rattle.std.proofs.Common.{◌≡◌, false, sym, ap, ◌∙◌, subst, arith}
+use Rattle.std.proofs.Common.{◌≡◌, false, sym, ◌∙◌, subst, arith}
 use Rattle.queue_words.proofs.Some.{some_at, none_more, none_yet}
 use Rattle.queue_words.specs.Bar.{asks_for, some_below}
 use Rattle.queue_words.proofs.words.Words.is_barred.Goals as goal
