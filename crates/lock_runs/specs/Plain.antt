@@ -1,7 +1,7 @@
 -- What the plain lock shows.
 use Rattle.std.specs.Prelude.{ℕ, List, ◌++◌, codes, decimal}
 use Rattle.plain_lock.specs.Moves.{labels}
-use Rattle.plain_lock.specs.declared.lock.PlainLock.{PlainLock}
+use Rattle.plain_lock.specs.declared.plain.PlainLock.{PlainLock}
 use Rattle.plain_words.specs.declared.places.Label.{Label}
 use Rattle.plain_words.specs.declared.places.Label.TheVariants.{I, P1, P2, P3, P4, P5, H}
 

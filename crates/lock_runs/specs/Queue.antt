@@ -4,7 +4,7 @@ use Rattle.lock.specs.declared.words.Class.{Class}
 use Rattle.lock.specs.declared.words.Class.TheVariants.{Reading, Writing}
 use Rattle.lock_runs.specs.Mix.{mixed}
 use Rattle.queue_lock.specs.Lock.{labels}
-use Rattle.queue_lock.specs.declared.lock.QueueLock.{QueueLock}
+use Rattle.queue_lock.specs.declared.queue.QueueLock.{QueueLock}
 use Rattle.queue_words.specs.Steps.{slot}
 use Rattle.queue_words.specs.declared.record.Record.{Record}
 use Rattle.queue_words.specs.declared.record.Successor.{Successor}

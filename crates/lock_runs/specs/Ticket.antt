@@ -1,7 +1,7 @@
 -- What the ticket lock shows.
 use Rattle.std.specs.Prelude.{ℕ, zero, suc, ◌+◌, ◌*◌, ◌%◌, ◌^◌, List, ◌++◌, codes, decimal}
 use Rattle.ticket_lock.specs.Lock.{labels}
-use Rattle.ticket_lock.specs.declared.lock.TicketLock.{TicketLock}
+use Rattle.ticket_lock.specs.declared.ticket.TicketLock.{TicketLock}
 use Rattle.ticket_words.specs.Steps.{kept_by}
 use Rattle.ticket_words.specs.declared.table.Label.{Label}
 use Rattle.ticket_words.specs.declared.table.Label.TheVariants.{I, T1, T2, T3, T4, T5, T6, H}

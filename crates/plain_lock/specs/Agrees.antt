@@ -9,7 +9,7 @@ use Rattle.plain_words.specs.declared.places.Standing.{Standing}
 use Rattle.plain_words.specs.declared.places.Standing.TheVariants.{I, P1, P2, ReaderH, P3, P4, P4Again, WriterH, P5}
 use Rattle.plain_words.specs.declared.table.Words.{Words}
 use Rattle.plain_words.specs.Words.{idle, stands, moved, next_at, next_word, called_at, called, stepped, finished_at, finished}
-use Rattle.plain_lock.specs.declared.lock.PlainLock.{PlainLock, full-type, counted-type, alone-type}
+use Rattle.plain_lock.specs.declared.plain.PlainLock.{PlainLock, full-type, counted-type, alone-type}
 use Rattle.plain_lock.specs.Counts.{reads, writes}
 
 -- what a lock's words keep to

@@ -16,7 +16,7 @@ use Rattle.plain_words.specs.declared.places.Standing.{Standing}
 use Rattle.plain_words.specs.declared.places.Standing.TheVariants.{I, P1, P2, ReaderH, P3, P4, P4Again, WriterH, P5}
 use Rattle.plain_words.specs.Places.{phase_of, class_of}
 use Rattle.plain_words.specs.Words.{idle, stands, moved, next_at, next_word, stepped, finished_at}
-use Rattle.plain_lock.specs.declared.lock.PlainLock.{PlainLock, full-type, counted-type, alone-type}
+use Rattle.plain_lock.specs.declared.plain.PlainLock.{PlainLock, full-type, counted-type, alone-type}
 use Rattle.plain_lock.specs.Counts.{reads, writes}
 use Rattle.plain_lock.specs.Moves.{phases, classes, bars, Steps, Finishes}
 use Rattle.plain_lock.specs.Agrees.{at_least_one}

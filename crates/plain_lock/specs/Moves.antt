@@ -4,7 +4,7 @@ use Rattle.lock.specs.Meaning.{steps_from, finishes_from}
 use Rattle.lock.specs.declared.words.Class.{Class}
 use Rattle.lock.specs.declared.words.Phase.{Phase}
 use Rattle.lock.specs.declared.words.Phase.TheVariants.{Idle}
-use Rattle.plain_lock.specs.declared.lock.PlainLock.{PlainLock}
+use Rattle.plain_lock.specs.declared.plain.PlainLock.{PlainLock}
 use Rattle.plain_words.specs.Places.{phase_of, class_of, label_of}
 use Rattle.plain_words.specs.Words.{fresh_words, stands, called, stepped, finished}
 use Rattle.plain_words.specs.declared.places.Label.{Label}

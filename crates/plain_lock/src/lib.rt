@@ -1,6 +1,6 @@
 // The plain lock: readers go before writers, and nobody waits in line.
 #![tactic(auto)]
 
-pub mod lock;
+pub mod plain;
 
-pub use lock::PlainLock;
+pub use plain::PlainLock;

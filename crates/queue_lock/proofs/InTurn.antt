@@ -15,7 +15,7 @@ use Rattle.queue_lock.specs.Lock.{phases, classes, line_of, Steps}
 use Rattle.queue_lock.specs.Places.{pos}
 use Rattle.queue_lock.specs.Sets as is
 use Rattle.queue_lock.specs.Sets.{number}
-use Rattle.queue_lock.specs.declared.lock.QueueLock.{QueueLock}
+use Rattle.queue_lock.specs.declared.queue.QueueLock.{QueueLock}
 use Rattle.queue_lock.specs.Every.{for_all}
 use Rattle.queue_lock.specs.Facts as fact
 use Rattle.queue_lock.specs.Lands.{leads, by_ways}

@@ -24,7 +24,7 @@ use Rattle.queue_lock.specs.Config.{Config, config}
 use Rattle.queue_lock.specs.Invariant.{Inv}
 use Rattle.queue_lock.specs.Sets as is
 use Rattle.queue_lock.specs.Tended.{Sound}
-use Rattle.queue_lock.specs.declared.lock.QueueLock.{QueueLock}
+use Rattle.queue_lock.specs.declared.queue.QueueLock.{QueueLock}
 use Rattle.queue_lock.proofs.CallWrite as call-write
 use Rattle.queue_lock.specs.Facts as fact
 use Rattle.queue_lock.proofs.Finish as finish

@@ -22,7 +22,7 @@ use Rattle.queue_lock.specs.Invariant.{Inv}
 use Rattle.queue_lock.specs.Lock.{phases, classes, bars, line_of, Opens, Calls, Steps, Finishes}
 use Rattle.queue_lock.specs.Sets as is
 use Rattle.queue_lock.specs.Sets.{number}
-use Rattle.queue_lock.specs.declared.lock.QueueLock.{QueueLock}
+use Rattle.queue_lock.specs.declared.queue.QueueLock.{QueueLock}
 use Rattle.queue_lock.specs.Alter as alter
 use Rattle.queue_lock.specs.Alter.{altered}
 use Rattle.queue_lock.specs.Every.{same_number, by_number}

@@ -7,7 +7,7 @@ use Rattle.lock.specs.declared.words.Class.{Class}
 use Rattle.lock.specs.declared.words.Class.TheVariants.{Writing}
 use Rattle.lock.specs.declared.words.Phase.{Phase}
 use Rattle.lock.specs.declared.words.Phase.TheVariants.{Idle, Holds}
-use Rattle.queue_lock.specs.declared.lock.QueueLock.{QueueLock}
+use Rattle.queue_lock.specs.declared.queue.QueueLock.{QueueLock}
 use Rattle.queue_words.specs.Bar.{barred}
 use Rattle.queue_words.specs.Standings.{phase_of, class_of, label_of}
 use Rattle.queue_words.specs.Steps.{stands_at, stepped, called, finished, fresh_words}

@@ -1,6 +1,6 @@
 // The queue lock: the fair lock in which each slot waits at a record of its own.
 #![tactic(auto)]
 
-pub mod lock;
+pub mod queue;
 
-pub use lock::QueueLock;
+pub use queue::QueueLock;

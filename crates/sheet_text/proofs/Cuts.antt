@@ -4,7 +4,7 @@ use Rattle.std.proofs.lemmas.List.{take_rest, length-take-le, get_or_past}
 use Rattle.std.proofs.lemmas.Fmt.{decimal_nonempty, digits_decimal, decimal_injective}
 use Rattle.std.proofs.lemmas.Bool.{true≢false, false≢true}
 use Rattle.std.specs.Int.{IsInRange}
-use Rattle.std.specs.List.{AllByRecursion as All}
+use Rattle.std.specs.List.{AllByRecursion}
 use Rattle.sheet_text.specs.declared.token.Token.{Token}
 use Rattle.sheet_text.specs.declared.token.Token.TheVariants.{Open, Close, Word, Number, End}
 use Rattle.sheet_text.specs.Parts.{Part, opening, closing, word, numeral, ending, written, is_opening, is_spaced, gap, onward}
@@ -27,7 +27,7 @@ high (numeral n) = 57
 high ending = 10
 
 -- a part has a first byte, and it is one of these
-run_first : (lo hi : ℕ) (ds r : List ℕ) → 0 < length ds → All (IsInRange lo hi) ds → (b : ℕ) × ((bs : List ℕ) × (ds ++ r ≡ b ∷ bs)) × IsInRange lo hi b
+run_first : (lo hi : ℕ) (ds r : List ℕ) → 0 < length ds → AllByRecursion (IsInRange lo hi) ds → (b : ℕ) × ((bs : List ℕ) × (ds ++ r ≡ b ∷ bs)) × IsInRange lo hi b
 run_first lo hi [] r some all = absurd (omega arith)
 run_first lo hi (d ∷ ds) r some all = (d, (ds ++ r, refl), all.0)
 
@@ -118,12 +118,12 @@ positive lo hi [] k some i st = absurd (some refl)
 positive lo hi (x ∷ s) zero some i st = absurd (st i)
 positive lo hi (x ∷ s) (suc k) some i st = omega arith
 
-pub cut_word : (s : List ℕ) (at k : ℕ) (w : Bor (List ℕ)) → w.now ≡ take k s → (length s ≡ 0 → ⊥) → IsInRange 97 122 (get_or s 0 0) → k ≤ length s → All (IsInRange 97 122) (take k s) → Stops 97 122 (drop k s) → Cut true s at (Word w at) (take (length s - k) (drop k s))
+pub cut_word : (s : List ℕ) (at k : ℕ) (w : Bor (List ℕ)) → w.now ≡ take k s → (length s ≡ 0 → ⊥) → IsInRange 97 122 (get_or s 0 0) → k ≤ length s → AllByRecursion (IsInRange 97 122) (take k s) → Stops 97 122 (drop k s) → Cut true s at (Word w at) (take (length s - k) (drop k s))
 cut_word s at k w is some i within all st =
     let more = positive 97 122 s k some i st in
     record {
       whole = rest_is s k ∙ ap (λ (x : List ℕ). x ++ take (length s - k) (drop k s)) (sym is);
-      good = (omega (arith, ap length is, length-take-le k s within), subst (All (IsInRange 97 122)) (sym is) all);
+      good = (omega (arith, ap length is, length-take-le k s within), subst (AllByRecursion (IsInRange 97 122)) (sym is) all);
       ends = subst (Stops 97 122) (sym (take_rest s k)) st;
       starts = sym (add-zero at);
       same = refl;

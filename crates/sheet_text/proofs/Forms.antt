@@ -1,6 +1,6 @@
 -- From the parts that are left to a form, and back.
 use Rattle.std.proofs.Common.{◌≡◌, ℕ, List, ◌∷◌, drop, Some, None, codes, Option, sym, subst, arith}
-use Rattle.std.specs.List.{AllByRecursion as All}
+use Rattle.std.specs.List.{AllByRecursion}
 use Rattle.sheet_text.specs.declared.form.Form.{Form}
 use Rattle.sheet_text.specs.declared.form.Form.TheVariants.{Open}
 use Rattle.sheet_text.specs.declared.form.KindName.{KindName}
@@ -43,10 +43,10 @@ kind_good Station = (omega arith, search arith)
 name_good : (f : Form) → Good (word (name f))
 name_good (Open lock slots places kind) = (omega arith, search arith)
 
-args_good : (f : Form) → Fits f → All Good (args f)
+args_good : (f : Form) → Fits f → AllByRecursion Good (args f)
 args_good (Open lock slots places kind) fits = (lock_good lock, (fits.0, (fits.1, (kind_good kind, (tt, (tt, tt))))))
 
-fits_args : (f : Form) → All Good (args f) → Fits f
+fits_args : (f : Form) → AllByRecursion Good (args f) → Fits f
 fits_args (Open lock slots places kind) goods = (goods.1.0, goods.1.1.0)
 
 -- the parts of a whole form are left

@@ -8,7 +8,7 @@ use Rattle.std.proofs.lemmas.Str.{IsUtf8-from_ascii}
 use Rattle.std.proofs.lemmas.Bool.{cases_eq}
 use Rattle.std.specs.Str.Parse.{digits_value, ParsesUnsigned}
 use Rattle.std.specs.Int.{IsInRange}
-use Rattle.std.specs.List.{AllByRecursion as All}
+use Rattle.std.specs.List.{AllByRecursion}
 use Rattle.sheet_text.specs.Cuts.{Stops}
 
 -- a run stops before a byte out of its range, and at the end
@@ -19,7 +19,7 @@ pub stops_end : (low high : ℕ) (xs : List ℕ) (n : ℕ) → length xs ≤ n �
 stops_end low high xs n h = subst (Stops low high) (sym (drop_all n xs h)) tt
 
 -- a run and what follows it are determined
-pub run_unique : (low high : ℕ) (xs ys r r' : List ℕ) → All (IsInRange low high) xs → All (IsInRange low high) ys → Stops low high r → Stops low high r' → xs ++ r ≡ ys ++ r' → (xs ≡ ys) × (r ≡ r')
+pub run_unique : (low high : ℕ) (xs ys r r' : List ℕ) → AllByRecursion (IsInRange low high) xs → AllByRecursion (IsInRange low high) ys → Stops low high r → Stops low high r' → xs ++ r ≡ ys ++ r' → (xs ≡ ys) × (r ≡ r')
 run_unique low high [] [] r r' a b s t e = (refl, e)
 run_unique low high [] (y ∷ ys) [] r' a b s t e = absurd (let z : ◌≡◌ {A = ℕ} 0 1 = cc in omega arith)
 run_unique low high [] (y ∷ ys) (c ∷ r) r' a b s t e = absurd (s (subst (IsInRange low high) (cc) b.0))
@@ -32,7 +32,7 @@ run_unique low high (x ∷ xs) (y ∷ ys) r r' a b s t e =
     ((λ i. same i ∷ more.0 i), more.1)
 
 -- digits as `parse` reads them
-pub own : IsNumeralModel (λ ds. All (IsInRange 48 57) ds) (digits_value 10)
+pub own : IsNumeralModel (λ ds. AllByRecursion (IsInRange 48 57) ds) (digits_value 10)
 own = numerals_by_value _ (search rules)
 
 -- a number has no leading 0, but for 0 itself
@@ -47,22 +47,22 @@ pub not_decimal_lead : (ds : List ℕ) → get_or ds 0 0 ≡ 48 → 1 < length d
 not_decimal_lead ds z l n h e = omega (arith, decimal_lead n h (sym (ap (λ (xs : List ℕ). get_or xs 0 0) e) ∙ z), ap length e)
 
 -- what `parse` reads of digits with no leading zero
-pub parsed : {E : Type 0} (ds text : List ℕ) (r : Result ℕ E) (n : ℕ) → text ≡ ds → All (IsInRange 48 57) ds → (length ds ≡ 0 → ⊥) → (get_or ds 0 0 ≡ 48 → length ds ≤ 1) → ParsesUnsigned 32 10 text r → r ≡ Ok n → (ds ≡ decimal n) × (n < 2 ^ 32)
+pub parsed : {E : Type 0} (ds text : List ℕ) (r : Result ℕ E) (n : ℕ) → text ≡ ds → AllByRecursion (IsInRange 48 57) ds → (length ds ≡ 0 → ⊥) → (get_or ds 0 0 ≡ 48 → length ds ≤ 1) → ParsesUnsigned 32 10 text r → r ≡ Ok n → (ds ≡ decimal n) × (n < 2 ^ 32)
 parsed ds text r n same all some lead reads is =
     let got = OkIff-at_ok r _ _ n (parse_digits own 32 ds r (subst (λ (t : List ℕ). ParsesUnsigned 32 10 t r) same reads) all) is in
     let low : digits_value 10 ds < 2 ^ 32 = got.0.1 in
     (sym (decimal-digits_value own ds all (omega arith) (λ e. omega (arith, lead e)) (omega arith)) ∙ ap decimal (sym got.1), omega (arith, got.1))
 
-pub not_parsed : {E : Type 0} (ds text : List ℕ) (r : Result ℕ E) (d : E) → text ≡ ds → All (IsInRange 48 57) ds → ParsesUnsigned 32 10 text r → r ≡ Err d → (n : ℕ) → n < 2 ^ 32 → ds ≡ decimal n → ⊥
+pub not_parsed : {E : Type 0} (ds text : List ℕ) (r : Result ℕ E) (d : E) → text ≡ ds → AllByRecursion (IsInRange 48 57) ds → ParsesUnsigned 32 10 text r → r ≡ Err d → (n : ℕ) → n < 2 ^ 32 → ds ≡ decimal n → ⊥
 not_parsed ds text r d same all reads is n h e =
     let v : digits_value 10 ds ≡ n = ap (digits_value 10) e ∙ digits_value-decimal own n (omega arith) in
     OkIff-at_err r _ _ d (parse_digits own 32 ds r (subst (λ (t : List ℕ). ParsesUnsigned 32 10 t r) same reads) all) is (omega (arith, decimal_nonempty n (omega arith), ap length e), omega arith)
 
 -- digits are text
-pub digits_utf8 : (ds : List ℕ) → All (IsInRange 48 57) ds → IsUtf8 ds
+pub digits_utf8 : (ds : List ℕ) → AllByRecursion (IsInRange 48 57) ds → IsUtf8 ds
 digits_utf8 ds all = IsUtf8-from_ascii ds (IsAscii-from_digits ds (own.to ds all))
 
 -- a run of digits that is no number's decimal form begins with no number
-pub no_number : (s : List ℕ) (k : ℕ) → All (IsInRange 48 57) (take k s) → Stops 48 57 (drop k s) → ((n : ℕ) → n < 2 ^ 32 → take k s ≡ decimal n → ⊥) → (n : ℕ) (rest : List ℕ) → n < 2 ^ 32 → Stops 48 57 rest → s ≡ decimal n ++ rest → ⊥
+pub no_number : (s : List ℕ) (k : ℕ) → AllByRecursion (IsInRange 48 57) (take k s) → Stops 48 57 (drop k s) → ((n : ℕ) → n < 2 ^ 32 → take k s ≡ decimal n → ⊥) → (n : ℕ) (rest : List ℕ) → n < 2 ^ 32 → Stops 48 57 rest → s ≡ decimal n ++ rest → ⊥
 no_number s k all stops none n rest h ends e =
     none n h (run_unique 48 57 (take k s) (decimal n) (drop k s) rest all (digits_decimal own n (omega arith)) stops ends (take-append-drop k s ∙ e)).0

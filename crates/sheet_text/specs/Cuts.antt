@@ -1,7 +1,7 @@
 -- The part at the front of some bytes. Only the contracts of inner functions speak of it.
 use Rattle.std.specs.Prelude.{◌≡◌, ℕ, ◌+◌, ◌^◌, ◌<◌, Bool, List, [], ◌∷◌, ◌++◌, length, ◌≢◌}
 use Rattle.std.specs.Int.{IsInRange}
-use Rattle.std.specs.List.{AllByRecursion as All}
+use Rattle.std.specs.List.{AllByRecursion}
 use Rattle.sheet_text.specs.declared.token.Token.{Token}
 use Rattle.sheet_text.specs.declared.token.Token.TheVariants.{Open, Close, Word, Number, End}
 use Rattle.sheet_text.specs.Parts.{Part, opening, closing, word, numeral, ending, written, gap}
@@ -10,7 +10,7 @@ use Rattle.sheet_text.specs.Parts.{Part, opening, closing, word, numeral, ending
 abbrev pub Good : Part → Type 0
 Good opening = Unit {0}
 Good closing = Unit {0}
-Good (word w) = (0 < length w) × All (IsInRange 97 122) w
+Good (word w) = (0 < length w) × AllByRecursion (IsInRange 97 122) w
 Good (numeral n) = n < 2 ^ 32
 Good ending = Unit {0}
 

@@ -1,6 +1,6 @@
 -- What is left of a line at a cursor, and what one step of reading does. Only the contracts of inner functions speak of it.
 use Rattle.std.specs.Prelude.{◌≡◌, ℕ, List, ◌∷◌, length, take, drop, Some, None, Option, ◌≢◌}
-use Rattle.std.specs.List.{AllByRecursion as All}
+use Rattle.std.specs.List.{AllByRecursion}
 use Rattle.sheet_text.specs.declared.cursor.Cursor.{Cursor}
 use Rattle.sheet_text.specs.declared.form.Form.{Form}
 use Rattle.sheet_text.specs.declared.token.Token.{Token}
@@ -11,7 +11,7 @@ use Rattle.sheet_text.specs.Parts.{Part, written, onward}
 -- the bytes that are left at c are those of ps
 pub record Left (c : Cursor) (ps : List Part) : Type 0 where
   pub here : drop c.at c.line.now ≡ onward c.tight ps
-  pub goods : All Good ps
+  pub goods : AllByRecursion Good ps
 
 -- p is the next part at c, and d is the cursor after it
 pub record Next (c : Cursor) (p : Part) (d : Cursor) : Type 0 where

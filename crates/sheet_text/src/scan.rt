@@ -1,7 +1,7 @@
 // Cuts the next part from a line.
 ghost use Rattle.std.specs.Prelude.{◌≡◌, ℕ, ◌+◌, ◌^◌, ◌<◌, ◌≤◌, true, List, ◌++◌, length, take, drop, decimal, MatchOption, ◌≢◌};
 ghost use Rattle.std.specs.Int.{IsInRange};
-ghost use Rattle.std.specs.List.{AllByRecursion as All};
+ghost use Rattle.std.specs.List.{AllByRecursion};
 ghost use Rattle.sheet_text.specs.Parts.{Part, is_opening, is_spaced};
 ghost use Rattle.sheet_text.specs.Cuts.{Stops, Cut, NoCut, part};
 ghost use Rattle.sheet_text.specs.Steps.{Next, NotNext, Stands};
@@ -12,7 +12,7 @@ use super::token::Token;
 // How many bytes from low to high stand at the front.
 fn run_len(s: &[u8], low: u8, high: u8) -> usize
     ensures within { result ≤ length s.now }
-    ensures all { All (IsInRange low high) (take result s.now) }
+    ensures all { AllByRecursion (IsInRange low high) (take result s.now) }
     ensures stops { Stops low high (drop result s.now) }
 {
     for (i, b) in s.iter().enumerate() {
@@ -28,7 +28,7 @@ const LONE: usize = 1;
 
 // The number that digits write, if they are its decimal form and it fits.
 fn value(ds: &[u8]) -> Option<u32>
-    requires { All (IsInRange 48 57) ds.now }
+    requires { AllByRecursion (IsInRange 48 57) ds.now }
     ensures { MatchOption result ((n : ℕ) → n < 2 ^ 32 → ds.now ≢ decimal n) (λ n. (ds.now ≡ decimal n) × (n < 2 ^ 32)) }
 {
     if ds.len() == 0 {

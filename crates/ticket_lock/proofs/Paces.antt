@@ -10,7 +10,7 @@ use Rattle.lock.specs.declared.words.Class.TheVariants.{Reading, Writing}
 use Rattle.lock.specs.declared.words.Phase.TheVariants.{Waits}
 use Rattle.ticket_lock.specs.Lock.{phases, classes, bars, labels, line_of, Opens, Calls, Steps, Finishes}
 use Rattle.ticket_lock.specs.Order.{times, before, among, adv, reads, writes, read_leaves, write_leaves, readers_ahead, writers_ahead}
-use Rattle.ticket_lock.specs.declared.lock.TicketLock.{TicketLock}
+use Rattle.ticket_lock.specs.declared.ticket.TicketLock.{TicketLock}
 use Rattle.ticket_lock.specs.Counts.{no, only, only_passed, before_without, before_sum, before_agree, before_end_in, among_moved, heads, head_times, head_before, head_end, before_mono, before_falls}
 use Rattle.ticket_lock.specs.Kept.{sound_of, fit_at, idle_is}
 use Rattle.ticket_lock.specs.Laws.{calls_becomes, steps_becomes, finishes_becomes, holds_is}

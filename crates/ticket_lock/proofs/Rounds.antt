@@ -6,7 +6,7 @@ use Rattle.lock.specs.Progress.{Goes, rests, calls, steps, works, finishes, AtMo
 use Rattle.lock.specs.declared.words.Phase.TheVariants.{Idle, Waits, Holds, Leaves}
 use Rattle.ticket_lock.specs.Lock.{phases, line_of, Steps}
 use Rattle.ticket_lock.specs.Order.{among, read_leaves, write_leaves, readers_ahead, writers_ahead}
-use Rattle.ticket_lock.specs.declared.lock.TicketLock.{TicketLock}
+use Rattle.ticket_lock.specs.declared.ticket.TicketLock.{TicketLock}
 use Rattle.ticket_lock.specs.Counts.{no, among_at, among_few, among_some, heads, head_some, before_few}
 use Rattle.ticket_lock.specs.Kept.{sound_of, idle_is, lower_read, reader_free, writer_free}
 use Rattle.ticket_lock.specs.Laws.{steps_becomes, finishes_becomes, holds_is}

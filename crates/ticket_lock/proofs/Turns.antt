@@ -8,7 +8,7 @@ use Rattle.lock.specs.declared.words.Class.TheVariants.{Reading}
 use Rattle.lock.specs.declared.words.Phase.TheVariants.{Holds}
 use Rattle.ticket_lock.specs.Lock.{phases, classes, line_of, Steps}
 use Rattle.ticket_lock.specs.Order.{times, before, reads, writes}
-use Rattle.ticket_lock.specs.declared.lock.TicketLock.{TicketLock}
+use Rattle.ticket_lock.specs.declared.ticket.TicketLock.{TicketLock}
 use Rattle.ticket_lock.specs.Counts.{no, times_hit, times_miss, before_miss, before_sum}
 use Rattle.ticket_lock.specs.Kept.{sound_of, reader_free, writer_free}
 use Rattle.ticket_lock.specs.Laws.{in_line_at, steps_becomes}

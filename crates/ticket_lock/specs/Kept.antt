@@ -14,7 +14,7 @@ use Rattle.lock.specs.declared.words.Phase.TheVariants.{Idle, Called, Waits, Hol
 use Rattle.ticket_lock.specs.Invariant.{Lined, Requested, Fits, Placed}
 use Rattle.ticket_lock.specs.Lock.{Arrived}
 use Rattle.ticket_lock.specs.Order.{adv, reads, writes, read_leaves, write_leaves, readers_ahead, writers_ahead}
-use Rattle.ticket_lock.specs.declared.lock.TicketLock.{TicketLock}
+use Rattle.ticket_lock.specs.declared.ticket.TicketLock.{TicketLock}
 use Rattle.ticket_lock.specs.Counts.{no, among_none}
 use Rattle.ticket_lock.specs.Sound.{Sound, Alone, line_few, no_writers, no_readers}
 use Rattle.ticket_lock.specs.Moves.{Alike, quiet, reader_in, writer_in, reader_out, writer_out, reader_quits, writer_quits}

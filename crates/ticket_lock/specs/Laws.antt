@@ -8,7 +8,7 @@ use Rattle.lock.specs.declared.words.Class.TheVariants.{Reading, Writing}
 use Rattle.lock.specs.declared.words.Phase.TheVariants.{Idle, Called, Waits, Holds, Leaves}
 use Rattle.ticket_lock.specs.Lock.{phases, classes, bars, Opens, Calls, Steps, Finishes}
 use Rattle.ticket_lock.specs.Order.{times, before, reads, writes, readers_ahead, writers_ahead}
-use Rattle.ticket_lock.specs.declared.lock.TicketLock.{TicketLock}
+use Rattle.ticket_lock.specs.declared.ticket.TicketLock.{TicketLock}
 use Rattle.ticket_lock.specs.Counts.{no, one_first}
 use Rattle.ticket_lock.specs.Kept.{Keeps, sound_of, fit_at, idle_is, all_idle, stands_here, stands_there, kept_there, reader_free, writer_free}
 use Rattle.ticket_words.specs.Counting.{lower}

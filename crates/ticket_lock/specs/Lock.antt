@@ -6,7 +6,7 @@ use Rattle.lock.specs.Meaning.{steps_from}
 use Rattle.lock.specs.declared.words.Class.{Class}
 use Rattle.lock.specs.declared.words.Phase.{Phase}
 use Rattle.lock.specs.declared.words.Phase.TheVariants.{Idle, Called, Waits, Holds, Leaves}
-use Rattle.ticket_lock.specs.declared.lock.TicketLock.{TicketLock}
+use Rattle.ticket_lock.specs.declared.ticket.TicketLock.{TicketLock}
 use Rattle.ticket_words.specs.Places.{phase_of, class_of, label_of}
 use Rattle.ticket_words.specs.Steps.{stands_at, stepped, called, finished, fresh_words}
 use Rattle.ticket_words.specs.declared.table.Label.{Label}

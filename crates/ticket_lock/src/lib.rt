@@ -1,6 +1,6 @@
 // The ticket lock: the fair lock of two counted words.
 #![tactic(auto)]
 
-pub mod lock;
+pub mod ticket;
 
-pub use lock::TicketLock;
+pub use ticket::TicketLock;
