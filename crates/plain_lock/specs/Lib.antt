@@ -1,5 +1,5 @@
 pub mod Counts
 pub mod Moves
-pub mod PlainIsLockLemmas
+pub mod Fresh
 pub mod Laws
 pub mod Agrees

@@ -13,7 +13,7 @@ use Rattle.queue_lock.specs.Invariant.{Inv, Own, Front, Alone, Act, In, Waits, B
 use Rattle.queue_lock.specs.Rows.{Row, row, row_of}
 use Rattle.lock.specs.Line.{without}
 use Rattle.queue_lock.specs.Facts as fact
-use Rattle.queue_lock.specs.PlacesLemmas.{left_cases, distinct_left, length_left, pos_left_same}
+use Rattle.queue_lock.specs.PlacesInLine.{left_cases, distinct_left, length_left, pos_left_same}
 use Rattle.queue_lock.specs.Shares.{owing_kept, next_share_same}
 use Rattle.queue_lock.specs.Sums.{total_same}
 use Rattle.queue_lock.specs.Alter as alter

@@ -21,7 +21,7 @@ use Rattle.queue_lock.specs.Facts as fact
 use Rattle.queue_lock.specs.Lands.{leads, by_ways}
 use Rattle.queue_lock.specs.Laws as law
 use Rattle.queue_lock.specs.Laws.{same_class, class_by}
-use Rattle.queue_lock.specs.PlacesLemmas.{pos_here, pos_there}
+use Rattle.queue_lock.specs.PlacesInLine.{pos_here, pos_there}
 use Rattle.queue_lock.specs.Safety.{writer_alone}
 use Rattle.queue_lock.specs.Standings.{holds_is}
 

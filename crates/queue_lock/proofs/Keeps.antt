@@ -31,7 +31,7 @@ use Rattle.queue_lock.proofs.Finish as finish
 use Rattle.queue_lock.proofs.Fullness.{full_step}
 use Rattle.queue_lock.proofs.FinishWriter as finish-writer
 use Rattle.queue_lock.proofs.Kept.{turn_keeps, call_reads_keeps}
-use Rattle.queue_lock.specs.PlacesLemmas.{distinct_le}
+use Rattle.queue_lock.specs.PlacesInLine.{distinct_le}
 use Rattle.queue_lock.specs.Rows.{row, row_of}
 use Rattle.queue_lock.specs.Safety.{fresh_inv}
 use Rattle.queue_lock.specs.Standings.{idle_is, holds_is, asking_asks}

@@ -16,7 +16,7 @@ use Rattle.queue_lock.specs.Config.{Config, upd}
 use Rattle.queue_lock.specs.Invariant.{Inv, Own, Front, Alone, Act, In, Waits, Behind, Owed, Next, Tail, has, owes, admitted, only, share_of, share, AllAct, next_share, one_if}
 use Rattle.queue_lock.specs.Every.{implies, apart}
 use Rattle.queue_lock.specs.Facts as fact
-use Rattle.queue_lock.specs.PlacesLemmas.{pos_le, pos_joined, pos_joined_in, pos_joined_out, length_joined, distinct_joined}
+use Rattle.queue_lock.specs.PlacesInLine.{pos_le, pos_joined, pos_joined_in, pos_joined_out, length_joined, distinct_joined}
 use Rattle.queue_lock.specs.Shares.{owing_writer, share_apart}
 use Rattle.queue_lock.specs.Sums.{total_same}
 use Rattle.queue_lock.specs.Alter as alter

@@ -12,7 +12,7 @@ use Rattle.queue_lock.specs.Places.{pos}
 use Rattle.queue_lock.specs.Config.{Config}
 use Rattle.queue_lock.specs.Invariant.{Inv, Front, Alone, Act, In, Next, has, owes, Pair, share_of, share, next_share}
 use Rattle.queue_lock.specs.Every.{every, for_all, implies, apart}
-use Rattle.queue_lock.specs.PlacesLemmas.{pos_inj, first_of}
+use Rattle.queue_lock.specs.PlacesInLine.{pos_inj, first_of}
 use Rattle.queue_lock.specs.Sums.{total_at}
 use Rattle.queue_lock.specs.Sets.{standings}
 use Rattle.queue_lock.specs.Shares.{owing_by, share_none}

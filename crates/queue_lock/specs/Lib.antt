@@ -13,7 +13,7 @@ pub mod Lasts
 pub mod Lands
 pub mod Arrive
 pub mod Facts
-pub mod PlacesLemmas
+pub mod PlacesInLine
 pub mod Turn
 pub mod Move
 pub mod Name

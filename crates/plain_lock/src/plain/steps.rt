@@ -4,7 +4,7 @@ ghost use Rattle.std.proofs.Common.{ap, ◌∙◌, rules, arith};
 ghost use Rattle.plain_lock.specs.Moves.{phases, classes, bars, labels, Opens, Calls, Steps, Finishes};
 ghost use Rattle.plain_words.specs.Places.{phase_of};
 ghost use Rattle.plain_words.specs.Words.{stands};
-ghost use Rattle.plain_lock.specs.PlainIsLockLemmas.{all_idle};
+ghost use Rattle.plain_lock.specs.Fresh.{all_idle};
 ghost use Rattle.plain_lock.specs.Laws.{step_means, finish_means};
 
 use super::PlainLock;

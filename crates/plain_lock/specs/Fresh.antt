@@ -1,3 +1,4 @@
+-- A fresh lock's slots stand idle.
 use Rattle.std.specs.Prelude.{◌≡◌, ℕ, zero, suc, replicate, slice_index_or, refl}
 use Rattle.plain_words.specs.Words.{idle}
 
