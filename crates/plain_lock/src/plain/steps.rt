@@ -1,6 +1,6 @@
 // The moves of the plain lock's slots, and what they mean.
 ghost use Rattle.std.specs.Prelude.{◌≡◌, ◌<◌};
-ghost use Rattle.std.proofs.Common.{ap, ◌∙◌, rules, arith};
+ghost use Rattle.std.proofs.Common.{ap, ◌∙◌, rules};
 ghost use Rattle.plain_lock.specs.Moves.{phases, classes, bars, labels, Opens, Calls, Steps, Finishes};
 ghost use Rattle.plain_words.specs.Places.{phase_of};
 ghost use Rattle.plain_words.specs.Words.{stands};
@@ -44,7 +44,7 @@ impl Lock for PlainLock {
 
     ghost opened = { λ n s o j. ap (λ w. phase_of (stands w j)) o ∙ ap (λ x. phase_of x.at) (all_idle 32 j) };
 
-    ghost called = { first_of (Prim.search rules, Prim.grind (arith, Self.row.coded.inj)) };
+    ghost called = { Prim.search rules };
 
     ghost stepped = { step_means };
 
