@@ -1,6 +1,5 @@
 -- A slot's one or two digits, as they are read.
-use Rattle.std.proofs.Common.{◌≡◌, ℕ, ◌+◌, ◌-◌, ◌/◌, ◌%◌, ◌<◌, ◌≤◌, List, [], ◌∷◌, length, get_or, take, drop, refl, ap, ◌∙◌, arith}
-use Rattle.std.proofs.lemmas.List.{take_rest}
+use Rattle.std.proofs.Common.{◌≡◌, ℕ, ◌+◌, ◌/◌, ◌%◌, ◌<◌, ◌≤◌, List, [], ◌∷◌, length, get_or, refl, ap, ◌∙◌, arith}
 use Rattle.std.proofs.lemmas.Bool.{cond_below, cond_above}
 use Rattle.lock_runs.specs.Scripts.{slot_text}
 
@@ -20,9 +19,3 @@ one_digit xs i e d h = one_item xs e ∙ ap (λ n. n ∷ []) d ∙ cond_below i 
 
 pub two_digits : (xs : List ℕ) (i : ℕ) → length xs ≡ 2 → get_or xs 0 0 ≡ 48 + i / 10 → get_or xs 1 0 ≡ 48 + i % 10 → 10 ≤ i → xs ≡ slot_text i
 two_digits xs i e t d h = two_items xs e ∙ ap (λ n. n ∷ get_or xs 1 0 ∷ []) t ∙ cond_above i 10 _ _ _ h (ap (λ n. (48 + i / 10) ∷ n ∷ []) d)
-
--- a line's letter, its blank, and what follows
-pub parts : (xs digits : List ℕ) (letter : ℕ) → 2 ≤ length xs → letter ≡ get_or xs 0 0 → get_or xs 1 0 ≡ 32 → take (length xs - 2) (drop 2 xs) ≡ digits → xs ≡ letter ∷ 32 ∷ digits
-parts [] digits letter h e b d = let no : ⊥ = omega arith in absurd no
-parts (x ∷ []) digits letter h e b d = let no : ⊥ = omega arith in absurd no
-parts (x ∷ y ∷ xs) digits letter h e b d = let t = take_rest (x ∷ y ∷ xs) 2 in cc
