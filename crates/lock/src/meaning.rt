@@ -67,7 +67,7 @@ pub trait Lock: Sized {
         ensures answer { result ≡ (phases self.new slot, labels self.new slot) }
         ensures left { finishes_from (phases self.old slot) (finishes self.old slot self.new) (self.new ≡ self.old) };
 
-    // The five points: what those moves mean.
+    // The five points: what the moves of a slot mean.
     ghost opened: { (n : ℕ) (s : Self) → opens n s → (j : ℕ) → phases s j ≡ Phase.Idle };
 
     ghost called: { (s : Self) (i : ℕ) (c : Class) (t : Self) → i < 32 → calls s i c t → CalledIn (meant phases classes bars s) i c (meant phases classes bars t) };

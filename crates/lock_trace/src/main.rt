@@ -43,7 +43,7 @@ fn read_script(heap: Global, script: &str) -> anyhow::Result<Vec<Line>> {
     let mut lines = Vec::new(heap);
     for text in script.lines() {
         let Some(line) = read_line(text.as_bytes()) else {
-            return Err(anyhow!(format!(in heap; "no operation: {text}")?));
+            return Err(anyhow!("no operation: {text}"));
         };
         lines.push(line)?;
     }
