@@ -25,7 +25,7 @@ def turned(names, text, tokens):
     out, behind = [], ""
     for m in tokens.finditer(text):
         token = m[0]
-        # what Rattle names itself stands behind 'goal.', and where an answer is defined
+        # behind 'goal.' stand the names that Rattle makes
         if token in names and not behind.endswith("goal."):
             token = names[token]
         out.append(token)
