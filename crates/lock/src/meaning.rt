@@ -1,11 +1,12 @@
 // A lock over at most 32 slots.
-ghost use Rattle.std.specs.Prelude.{◌≡◌, ℕ, ◌<◌, ◌≤◌, Bool};
+ghost use Rattle.std.specs.Prelude.{◌≡◌, ℕ, ◌<◌, Bool};
 ghost use Rattle.lock.specs.Meaning.{meant, call_answer, CallsOrRefuses, steps_from, finishes_from, CalledIn, Stepped, Finished};
 ghost use Rattle.lock.specs.declared.words.Class.{Class};
 ghost use Rattle.lock.specs.declared.words.Phase.{Phase};
 
 use crate::words::{Class, Phase};
 use refusal::Refusal;
+use slots::{Slot, Slots};
 
 pub trait Lock: Sized {
     // The places in the lock's procedures where a slot can stand.
@@ -29,43 +30,42 @@ pub trait Lock: Sized {
 
     ghost finishes: { Self → ℕ → Self → Type 0 };
 
-    fn fresh(slots: usize) -> Self
-        requires { (1 ≤ slots) × (slots ≤ 32) }
-        ensures { opens slots result };
+    fn fresh(slots: Slots) -> Self
+        ensures { opens slots.count result };
 
-    fn phase(&self, slot: usize) -> Phase
-        requires { slot < 32 }
-        ensures { result ≡ phases self.now slot };
+    fn phase(&self, slot: Slot) -> Phase
+        ensures { result ≡ phases self.now slot.index };
 
-    fn class(&self, slot: usize) -> Class
-        requires { slot < 32 }
-        ensures { result ≡ classes self.now slot };
+    fn class(&self, slot: Slot) -> Class
+        ensures { result ≡ classes self.now slot.index };
 
-    fn label(&self, slot: usize) -> Self::Label
-        requires { slot < 32 }
-        ensures { result ≡ labels self.now slot };
+    fn label(&self, slot: Slot) -> Self::Label
+        ensures { result ≡ labels self.now slot.index };
 
-    fn is_barred(&self, slot: usize) -> bool
-        requires { slot < 32 }
-        ensures { result ≡ bars self.now slot };
+    fn is_barred(&self, slot: Slot) -> bool
+        ensures { result ≡ bars self.now slot.index };
+
+    // Where the slot stands.
+    fn stand(&self, slot: Slot) -> (Phase, Self::Label)
+        ensures { result ≡ (phases self.now slot.index, labels self.now slot.index) }
+    {
+        (self.phase(slot), self.label(slot))
+    }
 
     // A slot calls for the lock. A refusal changes nothing.
-    fn call(&mut self, slot: usize, class: Class) -> Result<(), Refusal>
-        requires { slot < 32 }
-        ensures answer { result ≡ call_answer (phases self.old slot) class (bars self.old slot) }
-        ensures left { CallsOrRefuses result (calls self.old slot class self.new) (self.new ≡ self.old) };
+    fn call(&mut self, slot: Slot, class: Class) -> Result<(), Refusal>
+        ensures answer { result ≡ call_answer (phases self.old slot.index) class (bars self.old slot.index) }
+        ensures left { CallsOrRefuses result (calls self.old slot.index class self.new) (self.new ≡ self.old) };
 
     // One memory access of a slot that was called, waits or leaves; the step of any other changes nothing.
-    fn step(&mut self, slot: usize) -> (Phase, Self::Label)
-        requires { slot < 32 }
-        ensures answer { result ≡ (phases self.new slot, labels self.new slot) }
-        ensures left { steps_from (phases self.old slot) (steps self.old slot self.new) (self.new ≡ self.old) };
+    fn step(&mut self, slot: Slot) -> (Phase, Self::Label)
+        ensures answer { result ≡ (phases self.new slot.index, labels self.new slot.index) }
+        ensures left { steps_from (phases self.old slot.index) (steps self.old slot.index self.new) (self.new ≡ self.old) };
 
     // The end of a hold; of a slot that does not hold, it changes nothing.
-    fn finish(&mut self, slot: usize) -> (Phase, Self::Label)
-        requires { slot < 32 }
-        ensures answer { result ≡ (phases self.new slot, labels self.new slot) }
-        ensures left { finishes_from (phases self.old slot) (finishes self.old slot self.new) (self.new ≡ self.old) };
+    fn finish(&mut self, slot: Slot) -> (Phase, Self::Label)
+        ensures answer { result ≡ (phases self.new slot.index, labels self.new slot.index) }
+        ensures left { finishes_from (phases self.old slot.index) (finishes self.old slot.index self.new) (self.new ≡ self.old) };
 
     // The five points: what the moves of a slot mean.
     ghost opened: { (n : ℕ) (s : Self) → opens n s → (j : ℕ) → phases s j ≡ Phase.Idle };
