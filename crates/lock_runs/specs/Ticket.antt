@@ -3,8 +3,8 @@ use Rattle.std.specs.Prelude.{ℕ, zero, suc, ◌+◌, ◌*◌, ◌%◌, ◌^◌
 use Rattle.ticket_lock.specs.Lock.{labels}
 use Rattle.ticket_lock.specs.declared.ticket.TicketLock.{TicketLock}
 use Rattle.ticket_words.specs.Steps.{kept_by}
-use Rattle.ticket_words.specs.declared.table.Label.{Label}
-use Rattle.ticket_words.specs.declared.table.Label.TheVariants.{I, T1, T2, T3, T4, T5, T6, H}
+use Rattle.ticket_words.specs.declared.standing.Label.{Label}
+use Rattle.ticket_words.specs.declared.standing.Label.TheVariants.{I, T1, T2, T3, T4, T5, T6, H}
 use Rattle.ticket_words.specs.declared.words.Words.{Words}
 
 abbrev pub label_text : Label → List ℕ

@@ -21,7 +21,7 @@ impl<T: Copy> Table<T> {
     pub fn at(&self, slot: Slot) -> T
         ensures { (d : T) → result ≡ slice_index_or self.now.slots slot.index d }
     {
-        self.slots[slot.index()]
+        self.rows()[slot.index()]
     }
 
     // No other slot's row changes.

@@ -17,9 +17,9 @@ use Rattle.ticket_lock.specs.Laws.{calls_becomes, steps_becomes, finishes_become
 use Rattle.ticket_words.specs.Counting.{lower, upper}
 use Rattle.ticket_words.specs.Places.{phase_of}
 use Rattle.ticket_words.specs.Steps.{stands_at, kept_by, next_standing, called_standing, finished_standing}
-use Rattle.ticket_words.specs.declared.table.Label.{Label}
-use Rattle.ticket_words.specs.declared.table.Standing.{Standing}
-use Rattle.ticket_words.specs.declared.table.Standing.TheVariants.{I, T1, T2, T3, T4, T5, T6, ReaderH, WriterH}
+use Rattle.ticket_words.specs.declared.standing.Label.{Label}
+use Rattle.ticket_words.specs.declared.standing.Standing.{Standing}
+use Rattle.ticket_words.specs.declared.standing.Standing.TheVariants.{I, T1, T2, T3, T4, T5, T6, ReaderH, WriterH}
 
 abbrev pub ticket : lock.Ghosts TicketLock Label
 ticket = record { phases = phases; classes = classes; bars = bars; labels = labels; opens = Opens; calls = Calls; steps = Steps; finishes = Finishes }

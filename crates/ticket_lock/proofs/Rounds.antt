@@ -15,8 +15,8 @@ use Rattle.ticket_lock.specs.Sound.{line_few, once}
 use Rattle.ticket_words.specs.Counting.{lower}
 use Rattle.ticket_words.specs.Places.{phase_of}
 use Rattle.ticket_words.specs.Steps.{stands_at, kept_by, next_standing, next_completions, finished_standing}
-use Rattle.ticket_words.specs.declared.table.Standing.{Standing}
-use Rattle.ticket_words.specs.declared.table.Standing.TheVariants.{I, T1, T2, T3, T4, T5, T6, ReaderH, WriterH}
+use Rattle.ticket_words.specs.declared.standing.Standing.{Standing}
+use Rattle.ticket_words.specs.declared.standing.Standing.TheVariants.{I, T1, T2, T3, T4, T5, T6, ReaderH, WriterH}
 
 -- the step of a waiting slot whose test is true lets it hold
 free_holds : (s : TicketLock) (j : ℕ) → free s j ≡ true → (stands_at s.words j ≡ T2) ⊎ (stands_at s.words j ≡ T5) → phase_of (next_standing (stands_at s.words j) (kept_by s.words j) s.words.completions) ≡ Holds

@@ -3,8 +3,8 @@ use Rattle.std.specs.Prelude.{◌≡◌, ℕ, ◌+◌, List}
 use Rattle.ticket_lock.specs.Order.{times, adv, reads, writes, readers_ahead, writers_ahead}
 use Rattle.ticket_words.specs.Counting.{lower, upper}
 use Rattle.ticket_words.specs.Steps.{stands_at, kept_by}
-use Rattle.ticket_words.specs.declared.table.Standing.{Standing}
-use Rattle.ticket_words.specs.declared.table.Standing.TheVariants.{I, T1, T2, T3, T4, T5, T6, ReaderH, WriterH}
+use Rattle.ticket_words.specs.declared.standing.Standing.{Standing}
+use Rattle.ticket_words.specs.declared.standing.Standing.TheVariants.{I, T1, T2, T3, T4, T5, T6, ReaderH, WriterH}
 use Rattle.ticket_words.specs.declared.words.Words.{Words}
 
 -- in line stand, each once, exactly the slots that wait or hold

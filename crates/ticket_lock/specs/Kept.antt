@@ -21,8 +21,8 @@ use Rattle.ticket_lock.specs.Moves.{Alike, quiet, reader_in, writer_in, reader_o
 use Rattle.ticket_words.specs.Counting.{lower, upper, counted, reader_counted, writer_counted}
 use Rattle.ticket_words.specs.Places.{unused, phase_of}
 use Rattle.ticket_words.specs.Steps.{stands_at, kept_by, called_standing, finished_standing, written, stepped_at, stepped, called, finished, fresh_words}
-use Rattle.ticket_words.specs.declared.table.Standing.{Standing}
-use Rattle.ticket_words.specs.declared.table.Standing.TheVariants.{I, T1, T2, T3, T4, T5, T6, ReaderH, WriterH}
+use Rattle.ticket_words.specs.declared.standing.Standing.{Standing}
+use Rattle.ticket_words.specs.declared.standing.Standing.TheVariants.{I, T1, T2, T3, T4, T5, T6, ReaderH, WriterH}
 use Rattle.ticket_words.specs.declared.words.Words.{Words}
 
 pub record Keeps (w : Words) (l : List ℕ) : Type 0 where

@@ -14,8 +14,8 @@ use Rattle.ticket_lock.specs.Kept.{Keeps, sound_of, fit_at, idle_is, all_idle, s
 use Rattle.ticket_words.specs.Counting.{lower}
 use Rattle.ticket_words.specs.Places.{phase_of, class_of}
 use Rattle.ticket_words.specs.Steps.{stands_at, kept_by, next_standing, called_standing, finished_standing, written}
-use Rattle.ticket_words.specs.declared.table.Standing.{Standing}
-use Rattle.ticket_words.specs.declared.table.Standing.TheVariants.{I, T1, T2, T3, T4, T5, T6, ReaderH, WriterH}
+use Rattle.ticket_words.specs.declared.standing.Standing.{Standing}
+use Rattle.ticket_words.specs.declared.standing.Standing.TheVariants.{I, T1, T2, T3, T4, T5, T6, ReaderH, WriterH}
 use Rattle.ticket_words.specs.declared.words.Words.{Words}
 
 abbrev pub mean : TicketLock → Meaning

@@ -9,7 +9,7 @@ use Rattle.lock.specs.declared.words.Phase.TheVariants.{Idle, Called, Waits, Hol
 use Rattle.ticket_lock.specs.declared.ticket.TicketLock.{TicketLock}
 use Rattle.ticket_words.specs.Places.{phase_of, class_of, label_of}
 use Rattle.ticket_words.specs.Steps.{stands_at, stepped, called, finished, fresh_words}
-use Rattle.ticket_words.specs.declared.table.Label.{Label}
+use Rattle.ticket_words.specs.declared.standing.Label.{Label}
 
 -- each slot's phase, by where it stands
 abbrev pub phases : TicketLock → ℕ → Phase

@@ -1,8 +1,8 @@
 -- Counts over a line and over the slots.
 use Rattle.std.specs.Prelude.{ℕ, zero, suc, ◌+◌, cond, List, [], ◌∷◌, ◌==◌}
 use Rattle.ticket_words.specs.Counting.{counted}
-use Rattle.ticket_words.specs.declared.table.Standing.{Standing}
-use Rattle.ticket_words.specs.declared.table.Standing.TheVariants.{I, T1, T2, T3, T4, T5, T6, ReaderH, WriterH}
+use Rattle.ticket_words.specs.declared.standing.Standing.{Standing}
+use Rattle.ticket_words.specs.declared.standing.Standing.TheVariants.{I, T1, T2, T3, T4, T5, T6, ReaderH, WriterH}
 
 -- how often slot i stands in line
 abbrev pub times : ℕ → List ℕ → ℕ

@@ -7,8 +7,8 @@ use Rattle.ticket_lock.specs.Invariant.{Ahead, Fits}
 use Rattle.ticket_lock.specs.Order.{times, before, among, adv, reads, writes, read_leaves, write_leaves, readers_ahead, writers_ahead}
 use Rattle.ticket_lock.specs.Counts.{before_le, among_le, few, adv_none}
 use Rattle.ticket_words.specs.Counting.{lower, upper, counted}
-use Rattle.ticket_words.specs.declared.table.Standing.{Standing}
-use Rattle.ticket_words.specs.declared.table.Standing.TheVariants.{I, T1, T2, T3, T4, T5, T6, ReaderH, WriterH}
+use Rattle.ticket_words.specs.declared.standing.Standing.{Standing}
+use Rattle.ticket_words.specs.declared.standing.Standing.TheVariants.{I, T1, T2, T3, T4, T5, T6, ReaderH, WriterH}
 
 pub record Sound (a : ℕ → Standing) (k : ℕ → ℕ) (r c : ℕ) (l : List ℕ) : Type 0 where
   pub off : (i : ℕ) → 32 ≤ i → a i ≡ I

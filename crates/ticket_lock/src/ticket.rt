@@ -2,7 +2,7 @@
 ghost use Rattle.std.specs.Prelude.{◌≡◌, length};
 ghost use Rattle.line_table.specs.Lines.{in_line};
 ghost use Rattle.ticket_lock.specs.Invariant.{Lined, Requested, Placed};
-ghost use Rattle.ticket_words.specs.declared.table.Standing.TheVariants.{T2, T5, ReaderH, WriterH};
+ghost use Rattle.ticket_words.specs.declared.standing.Standing.TheVariants.{T2, T5, ReaderH, WriterH};
 
 use line_table::Line;
 use ticket_words::Words;

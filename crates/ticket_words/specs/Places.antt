@@ -1,14 +1,14 @@
 -- The table of places, and what a slot's standing means.
-use Rattle.std.specs.Prelude.{ℕ, List, slice_index_or}
+use Rattle.std.specs.Prelude.{ℕ, List, codes, slice_index_or}
 use Rattle.lock.specs.declared.words.Phase.{Phase}
 use Rattle.lock.specs.declared.words.Phase.TheVariants.{Idle, Called, Waits, Holds, Leaves}
 use Rattle.lock.specs.declared.words.Class.{Class}
 use Rattle.lock.specs.declared.words.Class.TheVariants.{Reading, Writing}
-use Rattle.ticket_words.specs.declared.table.Label.{Label}
-use Rattle.ticket_words.specs.declared.table.Label.TheVariants as label
-use Rattle.ticket_words.specs.declared.table.Standing.{Standing}
-use Rattle.ticket_words.specs.declared.table.Standing.TheVariants.{I, T1, T2, T3, T4, T5, T6, ReaderH, WriterH}
-use Rattle.ticket_words.specs.declared.table.Place.{Place}
+use Rattle.ticket_words.specs.declared.standing.Label.{Label}
+use Rattle.ticket_words.specs.declared.standing.Label.TheVariants as label
+use Rattle.ticket_words.specs.declared.standing.Standing.{Standing}
+use Rattle.ticket_words.specs.declared.standing.Standing.TheVariants.{I, T1, T2, T3, T4, T5, T6, ReaderH, WriterH}
+use Rattle.ticket_words.specs.declared.place.Place.{Place}
 
 -- a slot's place in a fresh table
 abbrev pub unused : Place
@@ -53,3 +53,14 @@ label_of T5 = label.T5
 label_of T6 = label.T6
 label_of ReaderH = label.H
 label_of WriterH = label.H
+
+-- what is printed of a label
+abbrev pub label_text : Label → List ℕ
+label_text label.I = codes "I"
+label_text label.T1 = codes "T1"
+label_text label.T2 = codes "T2"
+label_text label.T3 = codes "T3"
+label_text label.T4 = codes "T4"
+label_text label.T5 = codes "T5"
+label_text label.T6 = codes "T6"
+label_text label.H = codes "H"

@@ -4,8 +4,8 @@ use Rattle.lock.specs.declared.words.Class.{Class}
 use Rattle.lock.specs.declared.words.Class.TheVariants.{Reading, Writing}
 use Rattle.ticket_words.specs.Counting.{lower, reader_counted, writer_counted}
 use Rattle.ticket_words.specs.Places.{unused, place_at}
-use Rattle.ticket_words.specs.declared.table.Standing.{Standing}
-use Rattle.ticket_words.specs.declared.table.Standing.TheVariants.{I, T1, T2, T3, T4, T5, T6, ReaderH, WriterH}
+use Rattle.ticket_words.specs.declared.standing.Standing.{Standing}
+use Rattle.ticket_words.specs.declared.standing.Standing.TheVariants.{I, T1, T2, T3, T4, T5, T6, ReaderH, WriterH}
 use Rattle.ticket_words.specs.declared.words.Words.{Words}
 
 -- where slot i stands

@@ -1,10 +1,12 @@
 // Two words, requests and completions, beside the slots' places.
-ghost use Rattle.std.specs.Prelude.{◌≡◌, ◌<◌};
+ghost use Rattle.std.specs.Prelude.{◌≡◌};
 ghost use Rattle.ticket_words.specs.Steps.{stands_at, kept_by, word_read, written, stepped, called, finished, fresh_words};
 
 use crate::counting::{count_reader, count_writer, lower_half};
-use crate::table::{Place, Standing, Table};
+use crate::place::Place;
+use crate::standing::Standing;
 use lock::Class;
+use slots::{Slot, Table};
 
 pub mod shown;
 
@@ -12,7 +14,7 @@ pub mod shown;
 pub struct Words {
     requests: u32,
     completions: u32,
-    table: Table,
+    table: Table<Place>,
 }
 
 impl Words {
@@ -22,21 +24,19 @@ impl Words {
         Words {
             requests: 0,
             completions: 0,
-            table: Table::idle(),
+            table: Table::filled(Place::unused()),
         }
     }
 
-    pub fn standing(&self, slot: usize) -> Standing
-        requires { slot < 32 }
-        ensures { result ≡ stands_at self.now slot }
+    pub fn standing(&self, slot: Slot) -> Standing
+        ensures { result ≡ stands_at self.now slot.index }
     {
         self.table.at(slot).standing
     }
 
     // The slot's one access, by where it stands together with the word just read.
-    pub fn step(&mut self, slot: usize)
-        requires { slot < 32 }
-        ensures { self.new ≡ stepped self.old slot }
+    pub fn step(&mut self, slot: Slot)
+        ensures { self.new ≡ stepped self.old slot.index }
     {
         let Place { standing, kept } = self.table.at(slot);
         match (standing, self.read(standing)) {
@@ -62,29 +62,27 @@ impl Words {
     }
 
     // The call of an idle slot; of any other it changes nothing.
-    pub fn call(&mut self, slot: usize, class: Class)
-        requires { slot < 32 }
-        ensures { self.new ≡ called self.old slot class }
+    pub fn call(&mut self, slot: Slot, class: Class)
+        ensures { self.new ≡ called self.old slot.index class }
     {
-        match self.standing(slot) {
-            Standing::I => match class {
-                Class::Reading => self.stand(slot, Standing::T1),
-                Class::Writing => self.stand(slot, Standing::T4),
-            },
-            _ => {}
-        }
+        let next = match (self.standing(slot), class) {
+            (Standing::I, Class::Reading) => Standing::T1,
+            (Standing::I, Class::Writing) => Standing::T4,
+            (standing, _) => standing,
+        };
+        self.stand(slot, next);
     }
 
     // The end of a hold; of a slot that does not hold it changes nothing.
-    pub fn finish(&mut self, slot: usize)
-        requires { slot < 32 }
-        ensures { self.new ≡ finished self.old slot }
+    pub fn finish(&mut self, slot: Slot)
+        ensures { self.new ≡ finished self.old slot.index }
     {
-        match self.standing(slot) {
-            Standing::ReaderH => self.stand(slot, Standing::T3),
-            Standing::WriterH => self.stand(slot, Standing::T6),
-            _ => {}
-        }
+        let next = match self.standing(slot) {
+            Standing::ReaderH => Standing::T3,
+            Standing::WriterH => Standing::T6,
+            standing => standing,
+        };
+        self.stand(slot, next);
     }
 
     // The word that a slot's access reads.
@@ -98,27 +96,24 @@ impl Words {
     }
 
     // The slot stands elsewhere, with what it has kept.
-    fn stand(&mut self, slot: usize, standing: Standing)
-        requires { slot < 32 }
-        ensures { self.new ≡ written self.old slot standing (kept_by self.old slot) self.old.requests self.old.completions }
+    fn stand(&mut self, slot: Slot, standing: Standing)
+        ensures { self.new ≡ written self.old slot.index standing (kept_by self.old slot.index) self.old.requests self.old.completions }
     {
         let Place { standing: _, kept } = self.table.at(slot);
         self.table.put(slot, Place { standing, kept });
     }
 
     // The slot keeps what it read of the requests, and writes them.
-    fn request(&mut self, slot: usize, standing: Standing, kept: u32, requests: u32)
-        requires { slot < 32 }
-        ensures { self.new ≡ written self.old slot standing kept requests self.old.completions }
+    fn request(&mut self, slot: Slot, standing: Standing, kept: u32, requests: u32)
+        ensures { self.new ≡ written self.old slot.index standing kept requests self.old.completions }
     {
         self.table.put(slot, Place { standing, kept });
         self.requests = requests;
     }
 
     // The slot writes the completions, and is idle.
-    fn complete(&mut self, slot: usize, completions: u32)
-        requires { slot < 32 }
-        ensures { self.new ≡ written self.old slot Standing.I (kept_by self.old slot) self.old.requests completions }
+    fn complete(&mut self, slot: Slot, completions: u32)
+        ensures { self.new ≡ written self.old slot.index Standing.I (kept_by self.old slot.index) self.old.requests completions }
     {
         self.stand(slot, Standing::I);
         self.completions = completions;

@@ -1,8 +1,9 @@
-// Where each slot stands, and the half or the word that it has kept.
-ghost use Rattle.std.specs.Prelude.{◌≡◌, ◌<◌, replicate, slice_set};
-ghost use Rattle.ticket_words.specs.Places.{unused, place_at, phase_of, class_of, label_of};
+// Where a slot can stand in the lock's procedures.
+ghost use Rattle.std.specs.Prelude.{◌≡◌, Some};
+ghost use Rattle.ticket_words.specs.Places.{phase_of, class_of, label_of, label_text};
 
 use lock::{Class, Phase};
+use std::fmt;
 
 #[derive(Clone, Copy, Debug, PartialEq, Eq)]
 pub enum Label {
@@ -14,6 +15,23 @@ pub enum Label {
     T5,
     T6,
     H,
+}
+
+impl fmt::Display for Label {
+    ghost output = { λ label. Some (label_text label) };
+
+    fn fmt<W: fmt::Write>(&self, f: &mut fmt::Formatter<W>) -> fmt::Result {
+        f.write_str(match *self {
+            Label::I => "I",
+            Label::T1 => "T1",
+            Label::T2 => "T2",
+            Label::T3 => "T3",
+            Label::T4 => "T4",
+            Label::T5 => "T5",
+            Label::T6 => "T6",
+            Label::H => "H",
+        })
+    }
 }
 
 // A slot's label, with a reader's H and a writer's told apart, so that a standing tells the class too.
@@ -66,44 +84,5 @@ impl Standing {
             Standing::T6 => Label::T6,
             Standing::ReaderH | Standing::WriterH => Label::H,
         }
-    }
-}
-
-#[derive(Clone, Copy)]
-pub struct Place {
-    pub standing: Standing,
-    pub kept: u32,
-}
-
-#[derive(Clone, Copy)]
-pub struct Table {
-    slots: [Place; 32],
-}
-
-impl Table {
-    pub fn idle() -> Table
-        ensures { result.slots ≡ replicate 32 unused }
-    {
-        let unused = Place {
-            standing: Standing::I,
-            kept: 0,
-        };
-        Table {
-            slots: [unused; 32],
-        }
-    }
-
-    pub fn at(&self, slot: usize) -> Place
-        requires { slot < 32 }
-        ensures { result ≡ place_at self.now.slots slot }
-    {
-        self.slots[slot]
-    }
-
-    pub fn put(&mut self, index: usize, place: Place)
-        requires { index < 32 }
-        ensures { self.new.slots ≡ slice_set self.old.slots index place }
-    {
-        self.slots[index] = place;
     }
 }
