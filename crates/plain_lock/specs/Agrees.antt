@@ -7,8 +7,8 @@ use Rattle.std.proofs.lemmas.Bool.{eqb-true, cases_lt}
 use Rattle.lock.specs.declared.words.Class.{Class}
 use Rattle.plain_words.specs.declared.places.Standing.{Standing}
 use Rattle.plain_words.specs.declared.places.Standing.TheVariants.{I, P1, P2, ReaderH, P3, P4, P4Again, WriterH, P5}
-use Rattle.plain_words.specs.declared.table.Words.{Words}
-use Rattle.plain_words.specs.Words.{idle, stands, moved, next_at, next_word, called_at, called, stepped, finished_at, finished}
+use Rattle.plain_words.specs.declared.words.Words.{Words}
+use Rattle.plain_words.specs.Words.{stands, moved, next_at, next_word, called_at, called, stepped, finished_at, finished}
 use Rattle.plain_lock.specs.declared.plain.PlainLock.{PlainLock, full-type, counted-type, alone-type}
 use Rattle.plain_lock.specs.Counts.{reads, writes}
 
@@ -22,15 +22,15 @@ abbrev one : Bool → ℕ
 one b = cond b 1 0
 
 -- what a slot that is counted adds to the count
-pub at_least_one : (p : Standing → Bool) (s : PlainLock) (i : ℕ) → p I ≡ false → p (stands s.words i) ≡ true → 1 ≤ count_by (λ x. p x.at) s.words.slots
+pub at_least_one : (p : Standing → Bool) (s : PlainLock) (i : ℕ) → p I ≡ false → p (stands s.words i) ≡ true → 1 ≤ count_by p s.words.table.slots
 at_least_one p s i z e =
-    elim (cases_lt i (length s.words.slots)) [
-      | inl l ↦ let q = get_or-le-sum_by (λ x. one (p x.at)) s.words.slots i idle l in omega (arith, ap one e)
-      | inr l ↦ let q = ap (λ x. one (p x.at)) (get_or_past s.words.slots i idle l) in omega (arith, ap one e, ap one z)
+    elim (cases_lt i (length s.words.table.slots)) [
+      | inl l ↦ let q = get_or-le-sum_by (λ x. one (p x)) s.words.table.slots i I l in omega (arith, ap one e)
+      | inr l ↦ let q = ap (λ x. one (p x)) (get_or_past s.words.table.slots i I l) in omega (arith, ap one e, ap one z)
     ]
 
 small : (s : PlainLock) → s.words.word ≤ 65
-small s = omega (arith, count_by-le-length (λ x. reads x.at) s.words.slots)
+small s = omega (arith, count_by-le-length reads s.words.table.slots)
 
 -- a slot goes from b to a, and the word changes by what they are counted as
 moves : (s : PlainLock) (i : ℕ) (b a : Standing) (w : ℕ) → i < 32 → stands s.words i ≡ b
@@ -38,9 +38,9 @@ moves : (s : PlainLock) (i : ℕ) (b a : Standing) (w : ℕ) → i < 32 → stan
     → (one (writes a) ≤ one (writes b)) ⊎ (s.words.word ≡ 0)
     → Agrees (moved s.words i a w)
 moves s i b a w h e change o =
-    let l : i < length s.words.slots = omega arith in
-    let r = sum_by-set (λ x. one (reads x.at)) s.words.slots i (record { at = a }) idle l in
-    let t = sum_by-set (λ x. one (writes x.at)) s.words.slots i (record { at = a }) idle l in
+    let l : i < length s.words.table.slots = omega arith in
+    let r = sum_by-set (λ x. one (reads x)) s.words.table.slots i a I l in
+    let t = sum_by-set (λ x. one (writes x)) s.words.table.slots i a I l in
     let er = ap (λ x. one (reads x)) e in
     let et = ap (λ x. one (writes x)) e in
     let u : one (writes a) ≤ 1 = elim (writes a) as (λ x. one x ≤ 1) [ true ↦ omega arith | false ↦ omega arith ] in

@@ -2,7 +2,6 @@
 use Rattle.std.specs.Prelude.{ℕ, Bool, true, false, List, count_by}
 use Rattle.plain_words.specs.declared.places.Standing.{Standing}
 use Rattle.plain_words.specs.declared.places.Standing.TheVariants.{I, P1, P2, ReaderH, P3, P4, P4Again, WriterH, P5}
-use Rattle.plain_words.specs.declared.table.Slot.{Slot}
 
 -- a reader is counted from P1's addition until P3's subtraction
 abbrev pub reads : Standing → Bool
@@ -29,9 +28,9 @@ writes WriterH = true
 writes P5 = true
 
 -- how many slots are counted as readers
-abbrev pub readers : List Slot → ℕ
-readers slots = count_by (λ x. reads x.at) slots
+abbrev pub readers : List Standing → ℕ
+readers slots = count_by reads slots
 
 -- how many slots are counted as writers
-abbrev pub writers : List Slot → ℕ
-writers slots = count_by (λ x. writes x.at) slots
+abbrev pub writers : List Standing → ℕ
+writers slots = count_by writes slots

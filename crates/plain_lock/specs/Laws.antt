@@ -15,7 +15,7 @@ use Rattle.lock.specs.declared.words.Class.TheVariants.{Reading, Writing}
 use Rattle.plain_words.specs.declared.places.Standing.{Standing}
 use Rattle.plain_words.specs.declared.places.Standing.TheVariants.{I, P1, P2, ReaderH, P3, P4, P4Again, WriterH, P5}
 use Rattle.plain_words.specs.Places.{phase_of, class_of}
-use Rattle.plain_words.specs.Words.{idle, stands, moved, next_at, next_word, stepped, finished_at}
+use Rattle.plain_words.specs.Words.{stands, moved, next_at, next_word, stepped, finished_at}
 use Rattle.plain_lock.specs.declared.plain.PlainLock.{PlainLock, full-type, counted-type, alone-type}
 use Rattle.plain_lock.specs.Counts.{reads, writes}
 use Rattle.plain_lock.specs.Moves.{phases, classes, bars, Steps, Finishes}
@@ -42,17 +42,17 @@ same s t e = λ i. record {
 -- a slot that goes to where it stands leaves the lock as it is
 rests : (s t : PlainLock) (i : ℕ) (a : Standing) → stands s.words i ≡ a → t.words ≡ moved s.words i a s.words.word → t ≡ s
 rests s t i a e m =
-    let k = ap (λ x. slice_set s.words.slots i (record { at = x })) (sym e) ∙ set-get_or s.words.slots i idle in
-    same s t (m ∙ ap (λ xs. record { word = s.words.word; slots = xs }) k)
+    let k = ap (λ x. slice_set s.words.table.slots i x) (sym e) ∙ set-get_or s.words.table.slots i I in
+    same s t (m ∙ ap (λ xs. record { word = s.words.word; table = record { slots = xs } }) k)
 
 -- where the slots stand after a move of slot i
 here : (s t : PlainLock) (i : ℕ) (a : Standing) (w : ℕ) → i < 32 → t.words ≡ moved s.words i a w → stands t.words i ≡ a
 here s t i a w h e =
-    let l : i < length s.words.slots = omega arith in
-    ap (λ x. stands x i) e ∙ ap (λ x. x.at) (get_or-set_same s.words.slots i (record { at = a }) idle l)
+    let l : i < length s.words.table.slots = omega arith in
+    ap (λ x. stands x i) e ∙ get_or-set_same s.words.table.slots i a I l
 
 there : (s t : PlainLock) (i : ℕ) (a : Standing) (w : ℕ) → t.words ≡ moved s.words i a w → (j : ℕ) → (j ≢ i) → stands t.words j ≡ stands s.words j
-there s t i a w e j ne = ap (λ x. stands x j) e ∙ ap (λ x. x.at) (get_or-set_other s.words.slots i j (record { at = a }) idle ne)
+there s t i a w e j ne = ap (λ x. stands x j) e ∙ get_or-set_other s.words.table.slots i j a I ne
 
 holds_counted : (a : Standing) → phase_of a ≡ Holds → (reads a ≡ true) ⊎ (writes a ≡ true)
 holds_counted a e = grind arith

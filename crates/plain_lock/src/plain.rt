@@ -9,9 +9,9 @@ pub mod steps;
 #[derive(Clone, Copy)]
 pub struct PlainLock {
     words: Words,
-    ghost full: { length words.slots ≡ 32 },
-    ghost counted: { words.word ≡ 2 * readers words.slots + writers words.slots },
-    ghost alone: { writers words.slots ≤ 1 },
+    ghost full: { length words.table.slots ≡ 32 },
+    ghost counted: { words.word ≡ 2 * readers words.table.slots + writers words.table.slots },
+    ghost alone: { writers words.table.slots ≤ 1 },
 }
 
 impl PlainLock {

@@ -1,4 +1,5 @@
 -- What each place means: a slot's phase, its class and its label.
+use Rattle.std.specs.Prelude.{ℕ, List, codes}
 use Rattle.lock.specs.declared.words.Phase.{Phase}
 use Rattle.lock.specs.declared.words.Phase.TheVariants.{Idle, Called, Waits, Holds, Leaves}
 use Rattle.lock.specs.declared.words.Class.{Class}
@@ -43,3 +44,13 @@ label_of P4 = label.P4
 label_of P4Again = label.P4
 label_of WriterH = label.H
 label_of P5 = label.P5
+
+-- what is printed of a label
+abbrev pub label_text : Label → List ℕ
+label_text label.I = codes "I"
+label_text label.P1 = codes "P1"
+label_text label.P2 = codes "P2"
+label_text label.P3 = codes "P3"
+label_text label.P4 = codes "P4"
+label_text label.P5 = codes "P5"
+label_text label.H = codes "H"

@@ -4,24 +4,19 @@ use Rattle.lock.specs.declared.words.Class.{Class}
 use Rattle.lock.specs.declared.words.Class.TheVariants.{Reading, Writing}
 use Rattle.plain_words.specs.declared.places.Standing.{Standing}
 use Rattle.plain_words.specs.declared.places.Standing.TheVariants.{I, P1, P2, ReaderH, P3, P4, P4Again, WriterH, P5}
-use Rattle.plain_words.specs.declared.table.Slot.{Slot}
-use Rattle.plain_words.specs.declared.table.Words.{Words}
-
--- the record of a slot that has no job
-abbrev pub idle : Slot
-idle = record { at = I }
+use Rattle.plain_words.specs.declared.words.Words.{Words}
 
 -- the word is 0, and all slots are idle
 abbrev pub fresh_words : Words
-fresh_words = record { word = 0; slots = replicate 32 idle }
+fresh_words = record { word = 0; table = record { slots = replicate 32 I } }
 
 -- where slot i stands
 abbrev pub stands : Words → ℕ → Standing
-stands s i = (slice_index_or s.slots i idle).at
+stands s i = slice_index_or s.table.slots i I
 
 -- slot i goes to place a, and the word becomes w
 abbrev pub moved : Words → ℕ → Standing → ℕ → Words
-moved s i a w = record { word = w; slots = slice_set s.slots i (record { at = a }) }
+moved s i a w = record { word = w; table = record { slots = slice_set s.table.slots i a } }
 
 -- addition of 32 bits
 abbrev pub plus : ℕ → ℕ → ℕ

@@ -2,10 +2,10 @@
 #![tactic(auto)]
 
 pub mod places;
-pub mod table;
+pub mod words;
 
 pub use places::{Label, Standing};
-pub use table::Words;
+pub use words::Words;
 
 #[cfg(test)]
 mod tests;

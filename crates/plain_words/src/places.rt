@@ -1,8 +1,9 @@
 // The places in the plain lock's procedures where a slot can stand.
-ghost use Rattle.std.specs.Prelude.{◌≡◌};
-ghost use Rattle.plain_words.specs.Places.{phase_of, class_of, label_of};
+ghost use Rattle.std.specs.Prelude.{◌≡◌, Some};
+ghost use Rattle.plain_words.specs.Places.{phase_of, class_of, label_of, label_text};
 
 use lock::{Class, Phase};
+use std::fmt;
 
 // What is shown of where a slot stands.
 #[derive(Clone, Copy, Debug, PartialEq, Eq)]
@@ -14,6 +15,22 @@ pub enum Label {
     P4,
     P5,
     H,
+}
+
+impl fmt::Display for Label {
+    ghost output = { λ label. Some (label_text label) };
+
+    fn fmt<W: fmt::Write>(&self, f: &mut fmt::Formatter<W>) -> fmt::Result {
+        f.write_str(match *self {
+            Label::I => "I",
+            Label::P1 => "P1",
+            Label::P2 => "P2",
+            Label::P3 => "P3",
+            Label::P4 => "P4",
+            Label::P5 => "P5",
+            Label::H => "H",
+        })
+    }
 }
 
 // Finer than a label, so that a slot's phase and class are functions of it: P4 is called before its first

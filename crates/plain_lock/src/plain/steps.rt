@@ -11,17 +11,7 @@ use super::PlainLock;
 use lock::{Class, Lock, Phase};
 use plain_words::{Label, Words};
 use refusal::Refusal;
-
-impl PlainLock {
-    // Where the slot stands.
-    fn stand(&self, slot: usize) -> (Phase, Label)
-        requires { slot < 32 }
-        ensures { result ≡ (phases self.now slot, labels self.now slot) }
-    {
-        let at = self.words.at(slot);
-        (at.phase(), at.label())
-    }
-}
+use slots::{Slot, Slots};
 
 impl Lock for PlainLock {
     type Label = Label;
@@ -42,7 +32,7 @@ impl Lock for PlainLock {
 
     ghost finishes = { Finishes };
 
-    ghost opened = { λ n s o j. ap (λ w. phase_of (stands w j)) o ∙ ap (λ x. phase_of x.at) (all_idle 32 j) };
+    ghost opened = { λ n s o j. ap (λ w. phase_of (stands w j)) o ∙ ap phase_of (all_idle 32 j) };
 
     ghost called = { Prim.search rules };
 
@@ -50,29 +40,29 @@ impl Lock for PlainLock {
 
     ghost finished = { finish_means };
 
-    fn fresh(_slots: usize) -> PlainLock {
+    fn fresh(_slots: Slots) -> PlainLock {
         PlainLock {
             words: Words::fresh(),
         }
     }
 
-    fn phase(&self, slot: usize) -> Phase {
+    fn phase(&self, slot: Slot) -> Phase {
         self.words.at(slot).phase()
     }
 
-    fn class(&self, slot: usize) -> Class {
+    fn class(&self, slot: Slot) -> Class {
         self.words.at(slot).class()
     }
 
-    fn label(&self, slot: usize) -> Label {
+    fn label(&self, slot: Slot) -> Label {
         self.words.at(slot).label()
     }
 
-    fn is_barred(&self, _slot: usize) -> bool {
+    fn is_barred(&self, _slot: Slot) -> bool {
         false
     }
 
-    fn call(&mut self, slot: usize, class: Class) -> Result<(), Refusal> {
+    fn call(&mut self, slot: Slot, class: Class) -> Result<(), Refusal> {
         match self.words.at(slot).phase() {
             Phase::Idle => {
                 let mut words = self.words;
@@ -86,14 +76,14 @@ impl Lock for PlainLock {
         }
     }
 
-    fn step(&mut self, slot: usize) -> (Phase, Label) {
+    fn step(&mut self, slot: Slot) -> (Phase, Label) {
         let mut words = self.words;
         words.step(slot);
         *self = PlainLock { words };
         self.stand(slot)
     }
 
-    fn finish(&mut self, slot: usize) -> (Phase, Label) {
+    fn finish(&mut self, slot: Slot) -> (Phase, Label) {
         let mut words = self.words;
         words.finish(slot);
         *self = PlainLock { words };

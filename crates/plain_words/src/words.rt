@@ -1,23 +1,18 @@
-// The lock's one word, and its record of each slot.
-ghost use Rattle.std.specs.Prelude.{◌≡◌, ◌<◌};
+// The lock's one word, and where each slot stands.
+ghost use Rattle.std.specs.Prelude.{◌≡◌};
 ghost use Rattle.plain_words.specs.Words.{fresh_words, stands, moved, stepped, called, finished};
 
 use crate::places::Standing;
 use lock::Class;
+use slots::{Slot, Table};
 
 pub mod shown;
-
-// What the lock keeps of one slot.
-#[derive(Clone, Copy)]
-pub struct Slot {
-    at: Standing,
-}
 
 // The word counts readers by twos, and its bit 0 is a writer's.
 #[derive(Clone, Copy)]
 pub struct Words {
     word: u32,
-    slots: [Slot; 32],
+    table: Table<Standing>,
 }
 
 impl Words {
@@ -26,21 +21,19 @@ impl Words {
     {
         Words {
             word: 0,
-            slots: [Slot { at: Standing::I }; 32],
+            table: Table::filled(Standing::I),
         }
     }
 
-    pub fn at(&self, slot: usize) -> Standing
-        requires { slot < 32 }
-        ensures { result ≡ stands self.now slot }
+    pub fn at(&self, slot: Slot) -> Standing
+        ensures { result ≡ stands self.now slot.index }
     {
-        self.slots[slot].at
+        self.table.at(slot)
     }
 
     // An idle slot goes to the first place of its class; any other stays.
-    pub fn call(&mut self, slot: usize, class: Class)
-        requires { slot < 32 }
-        ensures { self.new ≡ called self.old slot class }
+    pub fn call(&mut self, slot: Slot, class: Class)
+        ensures { self.new ≡ called self.old slot.index class }
     {
         let next = match (self.at(slot), class) {
             (Standing::I, Class::Reading) => Standing::P1,
@@ -51,9 +44,8 @@ impl Words {
     }
 
     // One access to the word, by where the slot stands together with the word just read.
-    pub fn step(&mut self, slot: usize)
-        requires { slot < 32 }
-        ensures { self.new ≡ stepped self.old slot }
+    pub fn step(&mut self, slot: Slot)
+        ensures { self.new ≡ stepped self.old slot.index }
     {
         let (next, word) = match (self.at(slot), self.word) {
             (Standing::P1, w) => (Standing::P2, w.wrapping_add(2)),
@@ -69,9 +61,8 @@ impl Words {
     }
 
     // A slot that holds begins to leave; any other stays.
-    pub fn finish(&mut self, slot: usize)
-        requires { slot < 32 }
-        ensures { self.new ≡ finished self.old slot }
+    pub fn finish(&mut self, slot: Slot)
+        ensures { self.new ≡ finished self.old slot.index }
     {
         let next = match self.at(slot) {
             Standing::ReaderH => Standing::P3,
@@ -82,11 +73,10 @@ impl Words {
     }
 
     // The slot goes on to a place, and the word is written.
-    fn put(&mut self, slot: usize, at: Standing, word: u32)
-        requires { slot < 32 }
-        ensures { self.new ≡ moved self.old slot at word }
+    fn put(&mut self, slot: Slot, at: Standing, word: u32)
+        ensures { self.new ≡ moved self.old slot.index at word }
     {
-        self.slots[slot] = Slot { at };
+        self.table.put(slot, at);
         self.word = word;
     }
 }
