@@ -1,4 +1,5 @@
 -- What a slot's standing means.
+use Rattle.std.specs.Prelude.{ℕ, List, codes}
 use Rattle.lock.specs.declared.words.Phase.{Phase}
 use Rattle.lock.specs.declared.words.Phase.TheVariants.{Idle, Called, Waits, Holds, Leaves}
 use Rattle.lock.specs.declared.words.Class.{Class}
@@ -136,3 +137,45 @@ label_of E7 = label.E7
 label_of E8 = label.E8
 label_of E9 = label.E9
 label_of E10 = label.E10
+
+-- what is printed of a label
+abbrev pub label_text : Label → List ℕ
+label_text label.I = codes "I"
+label_text label.W1 = codes "W1"
+label_text label.W2 = codes "W2"
+label_text label.W3 = codes "W3"
+label_text label.W4 = codes "W4"
+label_text label.W5 = codes "W5"
+label_text label.W6 = codes "W6"
+label_text label.W7 = codes "W7"
+label_text label.W8 = codes "W8"
+label_text label.V1 = codes "V1"
+label_text label.V2 = codes "V2"
+label_text label.V3 = codes "V3"
+label_text label.V4 = codes "V4"
+label_text label.V5 = codes "V5"
+label_text label.V6 = codes "V6"
+label_text label.R1 = codes "R1"
+label_text label.R2 = codes "R2"
+label_text label.R3 = codes "R3"
+label_text label.R4 = codes "R4"
+label_text label.R5 = codes "R5"
+label_text label.R6 = codes "R6"
+label_text label.R7 = codes "R7"
+label_text label.R8 = codes "R8"
+label_text label.R9 = codes "R9"
+label_text label.R10 = codes "R10"
+label_text label.R11 = codes "R11"
+label_text label.R12 = codes "R12"
+label_text label.R13 = codes "R13"
+label_text label.E1 = codes "E1"
+label_text label.E2 = codes "E2"
+label_text label.E3 = codes "E3"
+label_text label.E4 = codes "E4"
+label_text label.E5 = codes "E5"
+label_text label.E6 = codes "E6"
+label_text label.E7 = codes "E7"
+label_text label.E8 = codes "E8"
+label_text label.E9 = codes "E9"
+label_text label.E10 = codes "E10"
+label_text label.H = codes "H"

@@ -73,6 +73,12 @@ is_writer Nobody = false
 is_writer Reader = false
 is_writer Writer = true
 
+-- the slot behind is of the class that is asked for
+abbrev pub is_behind : Successor → Successor → Bool
+is_behind Nobody s = cond (is_reader s) false (cond (is_writer s) false true)
+is_behind Reader s = is_reader s
+is_behind Writer s = is_writer s
+
 -- the whole state word is (blocked, none)
 abbrev pub is_blocked_alone : State → Bool
 is_blocked_alone s = cond s.blocked (cond (is_reader s.successor) false (cond (is_writer s.successor) false true)) false

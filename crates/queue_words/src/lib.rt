@@ -4,7 +4,6 @@
 pub mod late_wake;
 pub mod record;
 pub mod standing;
-pub mod table;
 pub mod words;
 
 pub use standing::Label;

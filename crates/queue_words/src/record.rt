@@ -6,7 +6,7 @@ use crate::standing::Standing;
 use lock::Class;
 
 // The class of the slot behind, as far as a record says.
-#[derive(Clone, Copy)]
+#[derive(Clone, Copy, PartialEq, Eq)]
 pub enum Successor {
     Nobody,
     Reader,

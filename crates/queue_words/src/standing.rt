@@ -1,8 +1,9 @@
 // Where a slot stands in the lock's procedures.
-ghost use Rattle.std.specs.Prelude.{◌≡◌};
-ghost use Rattle.queue_words.specs.Standings.{phase_of, class_of, label_of};
+ghost use Rattle.std.specs.Prelude.{◌≡◌, Some};
+ghost use Rattle.queue_words.specs.Standings.{phase_of, class_of, label_of, label_text};
 
 use lock::{Class, Phase};
+use std::fmt;
 
 // W is start_write, V end_write, R start_read and E end_read: one label for each access. I is idle, H holds.
 #[derive(Clone, Copy, Debug, PartialEq, Eq)]
@@ -46,6 +47,54 @@ pub enum Label {
     E9,
     E10,
     H,
+}
+
+impl fmt::Display for Label {
+    ghost output = { λ label. Some (label_text label) };
+
+    fn fmt<W: fmt::Write>(&self, f: &mut fmt::Formatter<W>) -> fmt::Result {
+        f.write_str(match *self {
+            Label::I => "I",
+            Label::W1 => "W1",
+            Label::W2 => "W2",
+            Label::W3 => "W3",
+            Label::W4 => "W4",
+            Label::W5 => "W5",
+            Label::W6 => "W6",
+            Label::W7 => "W7",
+            Label::W8 => "W8",
+            Label::V1 => "V1",
+            Label::V2 => "V2",
+            Label::V3 => "V3",
+            Label::V4 => "V4",
+            Label::V5 => "V5",
+            Label::V6 => "V6",
+            Label::R1 => "R1",
+            Label::R2 => "R2",
+            Label::R3 => "R3",
+            Label::R4 => "R4",
+            Label::R5 => "R5",
+            Label::R6 => "R6",
+            Label::R7 => "R7",
+            Label::R8 => "R8",
+            Label::R9 => "R9",
+            Label::R10 => "R10",
+            Label::R11 => "R11",
+            Label::R12 => "R12",
+            Label::R13 => "R13",
+            Label::E1 => "E1",
+            Label::E2 => "E2",
+            Label::E3 => "E3",
+            Label::E4 => "E4",
+            Label::E5 => "E5",
+            Label::E6 => "E6",
+            Label::E7 => "E7",
+            Label::E8 => "E8",
+            Label::E9 => "E9",
+            Label::E10 => "E10",
+            Label::H => "H",
+        })
+    }
 }
 
 // A slot's label, with a reader's H and a writer's told apart, so that a standing tells the class too.

@@ -1,5 +1,5 @@
 // A row for each slot.
-ghost use Rattle.std.specs.Prelude.{◌≡◌, replicate, slice_index_or, slice_set};
+ghost use Rattle.std.specs.Prelude.{◌≡◌, ◌≤◌, length, replicate, slice_index_or, slice_set, MatchOption};
 
 use crate::slot::{MOST, Slot};
 
@@ -16,6 +16,13 @@ impl<T: Copy> Table<T> {
         Table {
             slots: [row; MOST],
         }
+    }
+
+    // The slot of this number, if the table has a row for it.
+    pub fn slot(&self, index: usize) -> Option<Slot>
+        ensures { MatchOption result (length self.now.slots ≤ index) (λ s. s.index ≡ index) }
+    {
+        Slot::new(index)
     }
 
     pub fn at(&self, slot: Slot) -> T

@@ -20,7 +20,7 @@ impl Words {
     fn asks_for(&self, slot: usize, other: usize) -> bool
         ensures { result ≡ asks_for self.now slot other }
     {
-        let record = self.table.at(other);
+        let record = self.record(other);
         match (record.standing, record.w) {
             (Standing::E8 | Standing::E9, Some(w)) => other != slot && w == slot,
             (_, _) => false,

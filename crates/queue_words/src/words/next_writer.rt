@@ -11,7 +11,7 @@ impl Words {
     pub(crate) fn name_itself(&mut self, slot: usize, next: Standing)
         ensures { self.new ≡ name (stand self.old slot next) (Some slot) }
     {
-        self.table.stand(slot, next);
+        self.stand(slot, next);
         self.next_writer = Some(slot);
     }
 
@@ -20,8 +20,8 @@ impl Words {
         ensures { self.new ≡ name (stand self.old slot (if is_slot slot self.old.next_writer then itself else other)) None }
     {
         match self.next_writer {
-            Some(writer) if writer == slot => self.table.stand(slot, itself),
-            _ => self.table.stand(slot, other),
+            Some(writer) if writer == slot => self.stand(slot, itself),
+            _ => self.stand(slot, other),
         }
         self.next_writer = None;
     }
@@ -30,33 +30,33 @@ impl Words {
     pub(crate) fn name_next(&mut self, slot: usize, next: Standing)
         ensures { self.new ≡ name (stand self.old slot next) (slot_of self.old slot).next }
     {
-        self.next_writer = self.table.at(slot).next;
-        self.table.stand(slot, next);
+        self.next_writer = self.record(slot).next;
+        self.stand(slot, next);
     }
 
     // E7: reads the next writer into w.
     pub(crate) fn keep_next_writer(&mut self, slot: usize, none: Standing, other: Standing)
         ensures { self.new ≡ keep_next_writer self.old slot none other }
     {
-        let mut record = self.table.at(slot);
+        let mut record = self.record(slot);
         record.w = self.next_writer;
         record.standing = match self.next_writer {
             None => none,
             Some(_) => other,
         };
-        self.table.put(slot, record);
+        self.put(slot, record);
     }
 
     // E9: compares the next writer with w, and stores none where it is.
     pub(crate) fn take_if_named(&mut self, slot: usize, done: Standing, other: Standing)
         ensures { self.new ≡ take_if_named self.old slot (slot_of self.old slot).w done other }
     {
-        match (self.table.at(slot).w, self.next_writer) {
+        match (self.record(slot).w, self.next_writer) {
             (Some(w), Some(writer)) if writer == w => {
-                self.table.stand(slot, done);
+                self.stand(slot, done);
                 self.next_writer = None;
             }
-            (_, _) => self.table.stand(slot, other),
+            (_, _) => self.stand(slot, other),
         }
     }
 }

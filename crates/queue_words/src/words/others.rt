@@ -9,23 +9,19 @@ use crate::standing::Standing;
 use lock::Class;
 
 impl Words {
-    // R3: reads pred's class.
-    pub(crate) fn read_pred_class(&mut self, slot: usize, reading: Standing, writing: Standing)
-        ensures { self.new ≡ stand self.old slot (by_class (class_at self.old (slot_of self.old slot).pred) reading writing) }
+    // R3, V4: reads the class of another slot, pred or next.
+    pub(crate) fn read_class(
+        &mut self,
+        slot: usize,
+        other: Option<usize>,
+        reading: Standing,
+        writing: Standing,
+    )
+        ensures { self.new ≡ stand self.old slot (by_class (class_at self.old other) reading writing) }
     {
-        match self.class_at(self.table.at(slot).pred) {
-            Class::Reading => self.table.stand(slot, reading),
-            Class::Writing => self.table.stand(slot, writing),
-        }
-    }
-
-    // V4: reads next's class.
-    pub(crate) fn read_next_class(&mut self, slot: usize, reading: Standing, writing: Standing)
-        ensures { self.new ≡ stand self.old slot (by_class (class_at self.old (slot_of self.old slot).next) reading writing) }
-    {
-        match self.class_at(self.table.at(slot).next) {
-            Class::Reading => self.table.stand(slot, reading),
-            Class::Writing => self.table.stand(slot, writing),
+        match self.class_at(other) {
+            Class::Reading => self.stand(slot, reading),
+            Class::Writing => self.stand(slot, writing),
         }
     }
 
@@ -33,29 +29,27 @@ impl Words {
     pub(crate) fn note_writer(&mut self, slot: usize, next: Standing)
         ensures { self.new ≡ note (stand self.old slot next) (slot_of self.old slot).pred Writer }
     {
-        let pred = self.table.at(slot).pred;
-        self.table.stand(slot, next);
-        if let Some(pred) = pred {
-            self.table.note(pred, Successor::Writer);
-        }
+        let pred = self.record(slot).pred;
+        self.stand(slot, next);
+        self.note(pred, Successor::Writer);
     }
 
     // R4: compares pred's whole state with (blocked, none), and stores (blocked, reader) where it is.
     pub(crate) fn note_reader(&mut self, slot: usize, done: Standing, other: Standing)
         ensures { self.new ≡ note_if_alone self.old slot (slot_of self.old slot).pred done other }
     {
-        match self.table.at(slot).pred {
-            Some(pred) => match self.table.at(pred).state {
+        match self.record(slot).pred {
+            Some(pred) => match self.record(pred).state {
                 State {
                     blocked: true,
                     successor: Successor::Nobody,
                 } => {
-                    self.table.stand(slot, done);
-                    self.table.note(pred, Successor::Reader);
+                    self.stand(slot, done);
+                    self.note(Some(pred), Successor::Reader);
                 }
-                _ => self.table.stand(slot, other),
+                _ => self.stand(slot, other),
             },
-            None => self.table.stand(slot, other),
+            None => self.stand(slot, other),
         }
     }
 
@@ -63,40 +57,24 @@ impl Words {
     pub(crate) fn link_behind(&mut self, slot: usize, next: Standing)
         ensures { self.new ≡ link (stand self.old slot next) (slot_of self.old slot).pred slot }
     {
-        let pred = self.table.at(slot).pred;
-        self.table.stand(slot, next);
-        if let Some(pred) = pred {
-            self.table.link(pred, slot);
-        }
+        let pred = self.record(slot).pred;
+        self.stand(slot, next);
+        self.link(pred, slot);
     }
 
-    // R13, V6: switches next's blocked off.
-    pub(crate) fn unblock_next(&mut self, slot: usize, next: Standing)
-        ensures { self.new ≡ unblock (stand self.old slot next) (slot_of self.old slot).next }
+    // W5, R9, R13, V6, E10: switches the blocked off of a slot: itself, next or w.
+    pub(crate) fn wake(&mut self, slot: usize, woken: Option<usize>, next: Standing)
+        ensures { self.new ≡ unblock (stand self.old slot next) woken }
     {
-        let woken = self.table.at(slot).next;
-        self.table.stand(slot, next);
-        if let Some(woken) = woken {
-            self.table.unblock(woken);
-        }
-    }
-
-    // E10: switches w's blocked off.
-    pub(crate) fn unblock_w(&mut self, slot: usize, next: Standing)
-        ensures { self.new ≡ unblock (stand self.old slot next) (slot_of self.old slot).w }
-    {
-        let woken = self.table.at(slot).w;
-        self.table.stand(slot, next);
-        if let Some(woken) = woken {
-            self.table.unblock(woken);
-        }
+        self.stand(slot, next);
+        self.unblock(woken);
     }
 
     fn class_at(&self, slot: Option<usize>) -> Class
         ensures { result ≡ class_at self.now slot }
     {
         match slot {
-            Some(slot) => self.table.at(slot).class,
+            Some(slot) => self.record(slot).class,
             None => Class::Reading,
         }
     }

@@ -1,6 +1,6 @@
 // The accesses to the slot's own record.
-ghost use Rattle.std.specs.Prelude.{◌≡◌, if◌then◌else◌, Some, None};
-ghost use Rattle.queue_words.specs.Steps.{slot as slot_of, stand, unblock, is_none, is_reader, is_writer};
+ghost use Rattle.std.specs.Prelude.{◌≡◌, if◌then◌else◌};
+ghost use Rattle.queue_words.specs.Steps.{slot as slot_of, stand, is_none, is_behind};
 
 use super::Words;
 use crate::record::Successor;
@@ -11,9 +11,9 @@ impl Words {
     pub(crate) fn read_next(&mut self, slot: usize, none: Standing, other: Standing)
         ensures { self.new ≡ stand self.old slot (if is_none (slot_of self.old slot).next then none else other) }
     {
-        match self.table.at(slot).next {
-            None => self.table.stand(slot, none),
-            Some(_) => self.table.stand(slot, other),
+        match self.record(slot).next {
+            None => self.stand(slot, none),
+            Some(_) => self.stand(slot, other),
         }
     }
 
@@ -21,38 +21,27 @@ impl Words {
     pub(crate) fn read_blocked(&mut self, slot: usize, on: Standing, off: Standing)
         ensures { self.new ≡ stand self.old slot (if (slot_of self.old slot).state.blocked then on else off) }
     {
-        if self.table.at(slot).state.blocked {
-            self.table.stand(slot, on);
+        if self.record(slot).state.blocked {
+            self.stand(slot, on);
         } else {
-            self.table.stand(slot, off);
+            self.stand(slot, off);
         }
     }
 
-    // R10: reads the own successor class.
-    pub(crate) fn read_reader_behind(&mut self, slot: usize, reader: Standing, other: Standing)
-        ensures { self.new ≡ stand self.old slot (if is_reader (slot_of self.old slot).state.successor then reader else other) }
+    // R10, E4: reads the own successor class.
+    pub(crate) fn read_successor(
+        &mut self,
+        slot: usize,
+        wanted: Successor,
+        there: Standing,
+        other: Standing,
+    )
+        ensures { self.new ≡ stand self.old slot (if is_behind wanted (slot_of self.old slot).state.successor then there else other) }
     {
-        match self.table.at(slot).state.successor {
-            Successor::Reader => self.table.stand(slot, reader),
-            _ => self.table.stand(slot, other),
+        if self.record(slot).state.successor == wanted {
+            self.stand(slot, there);
+        } else {
+            self.stand(slot, other);
         }
-    }
-
-    // E4: reads the own successor class.
-    pub(crate) fn read_writer_behind(&mut self, slot: usize, writer: Standing, other: Standing)
-        ensures { self.new ≡ stand self.old slot (if is_writer (slot_of self.old slot).state.successor then writer else other) }
-    {
-        match self.table.at(slot).state.successor {
-            Successor::Writer => self.table.stand(slot, writer),
-            _ => self.table.stand(slot, other),
-        }
-    }
-
-    // W5, R9: switches the own blocked off.
-    pub(crate) fn unblock_itself(&mut self, slot: usize, next: Standing)
-        ensures { self.new ≡ unblock (stand self.old slot next) (Some slot) }
-    {
-        self.table.stand(slot, next);
-        self.table.unblock(slot);
     }
 }

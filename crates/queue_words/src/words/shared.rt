@@ -27,9 +27,9 @@ impl Words {
                 successor: Successor::Nobody,
             },
             pred: self.tail,
-            w: self.table.at(slot).w,
+            w: self.record(slot).w,
         };
-        self.table.put(slot, filled);
+        self.put(slot, filled);
         self.tail = Some(slot);
     }
 
@@ -39,10 +39,10 @@ impl Words {
     {
         match self.tail {
             Some(tail) if tail == slot => {
-                self.table.stand(slot, done);
+                self.stand(slot, done);
                 self.tail = None;
             }
-            _ => self.table.stand(slot, other),
+            _ => self.stand(slot, other),
         }
     }
 
@@ -51,8 +51,8 @@ impl Words {
         ensures { self.new ≡ stand self.old slot (if nat_eq self.old.reader_count 0 then zero else other) }
     {
         match self.reader_count {
-            0 => self.table.stand(slot, zero),
-            _ => self.table.stand(slot, other),
+            0 => self.stand(slot, zero),
+            _ => self.stand(slot, other),
         }
     }
 
@@ -60,7 +60,7 @@ impl Words {
     pub(crate) fn count_in(&mut self, slot: usize, next: Standing)
         ensures { self.new ≡ count_in self.old slot next }
     {
-        self.table.stand(slot, next);
+        self.stand(slot, next);
         self.reader_count = self.reader_count.wrapping_add(1);
     }
 
@@ -69,8 +69,8 @@ impl Words {
         ensures { self.new ≡ count_out self.old slot last other }
     {
         match self.reader_count {
-            1 => self.table.stand(slot, last),
-            _ => self.table.stand(slot, other),
+            1 => self.stand(slot, last),
+            _ => self.stand(slot, other),
         }
         self.reader_count = self.reader_count.wrapping_sub(1);
     }

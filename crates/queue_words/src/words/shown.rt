@@ -1,9 +1,7 @@
 // What the queue lock's words are, for whoever shows or compares them.
 ghost use Rattle.std.specs.Prelude.{◌≡◌};
-ghost use Rattle.queue_words.specs.Steps.{slot as slot_of};
 
 use super::Words;
-use crate::record::Record;
 
 impl Words {
     pub fn tail(&self) -> Option<usize>
@@ -22,12 +20,5 @@ impl Words {
         ensures { result ≡ self.now.reader_count }
     {
         self.reader_count
-    }
-
-    // A slot's record, with its registers.
-    pub fn record(&self, slot: usize) -> Record
-        ensures { result ≡ slot_of self.now slot }
-    {
-        self.table.at(slot)
     }
 }
