@@ -1,3 +1,9 @@
+// The words in which a lock's meaning is told.
+ghost use Rattle.std.specs.Prelude.{Some};
+ghost use Rattle.lock.specs.Phases.{phase_text};
+
+use std::fmt;
+
 // Where a slot's job stands with the lock.
 #[derive(Clone, Copy, Debug, PartialEq, Eq)]
 pub enum Phase {
@@ -6,6 +12,20 @@ pub enum Phase {
     Waits,
     Holds,
     Leaves,
+}
+
+impl fmt::Display for Phase {
+    ghost output = { λ phase. Some (phase_text phase) };
+
+    fn fmt<W: fmt::Write>(&self, f: &mut fmt::Formatter<W>) -> fmt::Result {
+        f.write_str(match *self {
+            Phase::Idle => "idle",
+            Phase::Called => "called",
+            Phase::Waits => "waits",
+            Phase::Holds => "holds",
+            Phase::Leaves => "leaves",
+        })
+    }
 }
 
 // What a job wants of the book.
