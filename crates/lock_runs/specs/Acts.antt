@@ -3,6 +3,7 @@ use Rattle.std.specs.Prelude.{◌≡◌, ℕ, List, Ok, Err, codes, decimal, Res
 use Rattle.refusal.specs.Numbers.{number_of}
 use Rattle.refusal.specs.declared.reason.Refusal.{Refusal}
 use Rattle.lock.specs.Meaning.{call_answer, CallsOrRefuses, steps_from, finishes_from}
+use Rattle.lock.specs.Phases.{phase_text}
 use Rattle.lock.specs.declared.meaning.Lock as lock
 use Rattle.lock.specs.declared.words.Phase.{Phase}
 use Rattle.lock.specs.declared.words.Phase.TheVariants.{Idle, Called, Waits, Holds, Leaves}
@@ -13,7 +14,7 @@ use Rattle.lock_runs.specs.declared.act.Answer.TheVariants.{Accepted, Refused, S
 
 abbrev pub answer_of : Result (Unit {0}) Refusal → Answer
 answer_of (Ok u) = Accepted
-answer_of (Err e) = Refused (number_of e)
+answer_of (Err e) = Refused e
 
 -- slot i's act turns lock s into t
 abbrev pub Acted : {L Label : Type 0} → lock.Ghosts L Label → L → ℕ → Act → L → Type 0
@@ -27,14 +28,8 @@ answered k s i (Call class) t = answer_of (call_answer (k.phases s i) class (k.b
 answered k s i Step t = Stands (k.phases t i)
 answered k s i Finish t = Stands (k.phases t i)
 
-abbrev pub phase_text : Phase → List ℕ
-phase_text Idle = codes "idle"
-phase_text Called = codes "called"
-phase_text Waits = codes "waits"
-phase_text Holds = codes "holds"
-phase_text Leaves = codes "leaves"
-
+-- a refusal is printed as its number
 abbrev pub answer_text : Answer → List ℕ
 answer_text Accepted = codes "ok"
-answer_text (Refused number) = decimal number
+answer_text (Refused e) = decimal (number_of e)
 answer_text (Stands phase) = phase_text phase

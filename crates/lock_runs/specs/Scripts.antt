@@ -25,7 +25,7 @@ Numbered digits (Some i) = (i < 32) × (digits ≡ slot_text i)
 
 -- a letter, a blank and the slot
 abbrev pub line_text : Line → List ℕ
-line_text l = letter l.act ∷ 32 ∷ slot_text l.slot
+line_text l = letter l.act ∷ 32 ∷ slot_text l.slot.index
 
 -- a line that is read is the text of an act of one of 32 slots
 abbrev pub Reads : List ℕ → Option Line → Type 0

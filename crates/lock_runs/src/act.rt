@@ -1,8 +1,10 @@
 // What a script asks of a lock, and what the lock answers.
-ghost use Rattle.std.specs.Prelude.{◌≡◌, ◌<◌, Some};
-ghost use Rattle.lock_runs.specs.Acts.{Acted, answered, answer_text, phase_text};
+ghost use Rattle.std.specs.Prelude.{◌≡◌, Some};
+ghost use Rattle.lock_runs.specs.Acts.{Acted, answered, answer_text};
 
 use lock::{Class, Lock, Phase};
+use refusal::Refusal;
+use slots::Slot;
 use std::fmt;
 
 #[derive(Clone, Copy)]
@@ -15,36 +17,22 @@ pub enum Act {
 #[derive(Clone, Copy)]
 pub enum Answer {
     Accepted,
-    // With the refusal's number.
-    Refused(u32),
+    Refused(Refusal),
     Stands(Phase),
 }
 
 // A slot does what a script asks.
-pub fn perform<L: Lock>(lock: &mut L, slot: usize, act: Act) -> Answer
-    requires { slot < 32 }
-    ensures answer { result ≡ answered L.Lock lock.old slot act lock.new }
-    ensures left { Acted L.Lock lock.old slot act lock.new }
+pub fn perform<L: Lock>(lock: &mut L, slot: Slot, act: Act) -> Answer
+    ensures answer { result ≡ answered L.Lock lock.old slot.index act lock.new }
+    ensures left { Acted L.Lock lock.old slot.index act lock.new }
 {
     match act {
         Act::Call(class) => match lock.call(slot, class) {
             Ok(()) => Answer::Accepted,
-            Err(e) => Answer::Refused(e.number()),
+            Err(refusal) => Answer::Refused(refusal),
         },
         Act::Step => Answer::Stands(lock.step(slot).0),
         Act::Finish => Answer::Stands(lock.finish(slot).0),
-    }
-}
-
-pub fn phase_name(phase: Phase) -> &'static str
-    ensures { result.now ≡ phase_text phase }
-{
-    match phase {
-        Phase::Idle => "idle",
-        Phase::Called => "called",
-        Phase::Waits => "waits",
-        Phase::Holds => "holds",
-        Phase::Leaves => "leaves",
     }
 }
 
@@ -54,8 +42,8 @@ impl fmt::Display for Answer {
     fn fmt<W: fmt::Write>(&self, f: &mut fmt::Formatter<W>) -> fmt::Result {
         match *self {
             Answer::Accepted => write!(f, "ok"),
-            Answer::Refused(number) => write!(f, "{number}"),
-            Answer::Stands(phase) => write!(f, "{}", phase_name(phase)),
+            Answer::Refused(refusal) => write!(f, "{}", refusal.number()),
+            Answer::Stands(phase) => write!(f, "{phase}"),
         }
     }
 }

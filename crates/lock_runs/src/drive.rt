@@ -1,24 +1,34 @@
 // The driver of a bench: the slots take turns.
-ghost use Rattle.std.specs.Prelude.{◌≡◌, ◌<◌, ◌≤◌};
+ghost use Rattle.std.specs.Prelude.{◌≡◌, ◌+◌, ◌*◌, ◌≤◌};
 ghost use Rattle.lock_runs.specs.Acts.{Acted};
 ghost use Rattle.lock_runs.specs.Drive.{Driven, class_in, next_act};
 
 use lock::{Class, Lock, Phase};
+use slots::{Slot, Slots};
 
 // Operation k is of slot k mod slots. An idle slot calls, for writing in every fourth round.
-pub fn drive<L: Lock>(lock: &mut L, slots: usize, steps: u64)
-    requires { (1 ≤ slots) × (slots ≤ 32) }
-    ensures { Driven L.Lock slots lock.old steps lock.new }
+pub fn drive<L: Lock>(lock: &mut L, slots: Slots, steps: u64)
+    ensures { Driven L.Lock slots.count lock.old steps lock.new }
 {
-    let mut slot = 0;
-    let mut round = 0u64;
-    for _k in 0..steps {
-        turn(lock, slot, class_in(round));
-        slot += 1;
-        if slot == slots {
-            slot = 0;
-            round += 1;
-        }
+    let count = slots.count() as u64;
+    let rounds = steps / count;
+    for round in 0..rounds {
+        take_turns(lock, slots, slots.count(), round);
+    }
+    take_turns(lock, slots, (steps % count) as usize, rounds);
+}
+
+// The first n slots take their turns of a round; as many operations as the rounds before have were done.
+fn take_turns<L: Lock>(lock: &mut L, slots: Slots, n: usize, round: u64)
+    requires { n ≤ slots.count }
+    ensures { (s : L) → Driven L.Lock slots.count s (round * slots.count) lock.old → Driven L.Lock slots.count s (round * slots.count + n) lock.new }
+{
+    let class = class_in(round);
+    for index in 0..n {
+        let Some(slot) = slots.get(index) else {
+            unreachable!()
+        };
+        turn(lock, slot, class);
     }
 }
 
@@ -32,9 +42,8 @@ fn class_in(round: u64) -> Class
     }
 }
 
-fn turn<L: Lock>(lock: &mut L, slot: usize, class: Class)
-    requires { slot < 32 }
-    ensures { Acted L.Lock lock.old slot (next_act (L.Lock.phases lock.old slot) class) lock.new }
+fn turn<L: Lock>(lock: &mut L, slot: Slot, class: Class)
+    ensures { Acted L.Lock lock.old slot.index (next_act (L.Lock.phases lock.old slot.index) class) lock.new }
 {
     match lock.phase(slot) {
         Phase::Idle => {

@@ -1,12 +1,10 @@
 // One line of a script.
-ghost use Rattle.std.specs.Prelude.{◌<◌};
-
 use crate::act::Act;
+use slots::Slot;
 
 // A slot and its act.
 #[derive(Clone, Copy)]
 pub struct Line {
-    pub slot: usize,
+    pub slot: Slot,
     pub act: Act,
-    ghost within: { slot < 32 },
 }

@@ -5,6 +5,7 @@ ghost use Rattle.lock_runs.specs.Scripts.{Lettered, Numbered, Reads};
 use crate::act::Act;
 use crate::line::Line;
 use lock::Class;
+use slots::Slot;
 
 // A letter, a blank and a slot.
 pub fn read_line(text: &[u8]) -> Option<Line>
@@ -12,15 +13,15 @@ pub fn read_line(text: &[u8]) -> Option<Line>
 {
     match text {
         [letter, b' ', digits @ ..] => Some(Line {
-            slot: read_slot(digits)?,
+            slot: Slot::new(read_index(digits)?)?,
             act: read_act(*letter)?,
         }),
         _ => None,
     }
 }
 
-// A slot is 0 to 31, with no leading zero.
-fn read_slot(digits: &[u8]) -> Option<usize>
+// A slot's index is 0 to 31, with no leading zero.
+fn read_index(digits: &[u8]) -> Option<usize>
     ensures { Numbered digits.now result }
 {
     match digits {

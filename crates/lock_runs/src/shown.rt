@@ -1,7 +1,8 @@
 // What a lock shows of itself.
-ghost use Rattle.std.specs.Prelude.{◌≡◌, ℕ, ◌<◌, List, IfOk, string_bytes};
+ghost use Rattle.std.specs.Prelude.{◌≡◌, ℕ, List, IfOk, string_bytes};
 
 use lock::Lock;
+use slots::Slot;
 use std::alloc::{AllocError, Global};
 
 pub trait Shown: Lock {
@@ -11,9 +12,8 @@ pub trait Shown: Lock {
     // The shared words and the registers, mixed into one number.
     ghost sums: { Self → ℕ };
 
-    fn show(&self, heap: Global, slot: usize) -> Result<String, AllocError>
-        requires { slot < 32 }
-        ensures { IfOk result (λ s. string_bytes s ≡ shows self.now slot) };
+    fn show(&self, heap: Global, slot: Slot) -> Result<String, AllocError>
+        ensures { IfOk result (λ s. string_bytes s ≡ shows self.now slot.index) };
 
     fn checksum(&self) -> u32
         ensures { result ≡ sums self.now };

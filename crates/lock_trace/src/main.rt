@@ -1,8 +1,6 @@
 // Runs a script or a bench from standard input on a lock, and prints the answers and the words.
 #![tactic(auto)]
 
-ghost use Rattle.std.specs.Prelude.{◌≤◌};
-
 use anyhow::anyhow;
 use lock::Lock;
 use lock_runs::drive::drive;
@@ -11,6 +9,7 @@ use lock_runs::script::read_line;
 use lock_runs::shown::Shown;
 use lock_runs::trace::trace;
 use plain_lock::PlainLock;
+use slots::Slots;
 use std::alloc::Global;
 use std::io;
 use std::io::Write;
@@ -61,27 +60,25 @@ fn bench<R: Clock>(clock: &R, heap: Global, first: &str) -> anyhow::Result<Strin
     ) else {
         return Err(anyhow!("no bench in line 1"));
     };
-    let slots = slots.parse::<usize>()?;
+    let count = slots.parse::<usize>()?;
     let steps = steps.parse::<u64>()?;
-    if slots < 1 || slots > 32 {
+    let Some(slots) = Slots::new(count) else {
         return Err(anyhow!("slots are 1 to 32"));
-    }
+    };
     let (nanos, sum) = match name {
         "plain" => measure::<R, PlainLock>(clock, slots, steps)?,
         "ticket" => measure::<R, TicketLock>(clock, slots, steps)?,
         _ => return Err(anyhow!("no such lock")),
     };
-    Ok(format!(in heap; "{name} {slots} {steps} {nanos}\nchecksum {sum}\n")?)
+    Ok(format!(in heap; "{name} {count} {steps} {nanos}\nchecksum {sum}\n")?)
 }
 
 // How long the driver takes, in nanoseconds, and the checksum of the words at the end.
 fn measure<R: Clock, L: Shown + Drop>(
     clock: &R,
-    slots: usize,
+    slots: Slots,
     steps: u64,
-) -> anyhow::Result<(u128, u32)>
-    requires { (1 ≤ slots) × (slots ≤ 32) }
-{
+) -> anyhow::Result<(u128, u32)> {
     let mut lock = L::fresh(slots);
     let start = Instant::now(clock)?;
     drive(&mut lock, slots, steps);

@@ -1,22 +1,17 @@
-use Rattle.std.proofs.Common.{◌*◌, ap, arith}
-use Rattle.lock_runs.specs.Drive.{none}
-use Rattle.lock_runs.proofs.Turns.{turned, round_more}
+use Rattle.std.proofs.Common.{◌≡◌, ◌*◌, ◌/◌, sym, subst, zero-mul, arith}
+use Rattle.lock_runs.specs.Drive.{Driven, none}
+use Rattle.lock_runs.proofs.Turns.{round_more, all_done}
 use Rattle.lock_runs.proofs.drive.drive.Goals as goal
-use Rattle.lock_runs.proofs.drive.drive.Goals.{then-slot-slots, else-slot-slots}
 
-pub loop-k-init : goal.loop-k-init
-loop-k-init g c = (omega arith, omega arith, omega arith, none)
+pub loop-round-init : goal.loop-round-init
+loop-round-init g c = subst (λ n. Driven g.L.Lock c.args.slots.count c.args.lock.now n c.args.lock.now) (sym (zero-mul c.args.slots.count)) none
 
-pub loop-k-preserved : goal.loop-k-preserved
-loop-k-preserved g c =
-    let i = c.loop-k.invariant in
-    let d = turned g.L.Lock c.args.lock.now c.loop-k.lock c.turn.new.lock c.loop-k._k c.loop-k.round c.args.slots c.loop-k.slot c.class_in.result i.0 i.2 c.class_in.ensures i.3 c.turn.ensures in
-    elim c.if-slot-slots.branch [
-      | then-slot-slots w ↦
-          let m = round_more c.loop-k._k c.loop-k.round c.args.slots c.loop-k.slot i.2 (omega arith) in
-          let r = ap (λ x. x * c.args.slots) w.round-is in
-          (omega arith, omega arith, omega arith, d)
-      | else-slot-slots w ↦
-          let r = ap (λ x. x * c.args.slots) w.round-is in
-          (omega arith, omega arith, omega arith, d)
-    ]
+pub loop-round-preserved : goal.loop-round-preserved
+loop-round-preserved g c =
+    subst (λ n. Driven g.L.Lock c.args.slots.count c.args.lock.now n c.take_turns.new.lock) (round_more _ _ _ c.count.ensures) (c.take_turns.ensures c.args.lock.now c.loop-round.invariant)
+
+pub returns : goal.returns
+returns g c =
+    let r : c.loop-round.round ≡ c.args.steps / c.count-count.result = omega (arith, c.loop-round-test.false, c.loop-round.auto.round-end) in
+    let d = subst (λ x. Driven g.L.Lock c.args.slots.count c.args.lock.now (x * c.args.slots.count) c.loop-round.lock) r c.loop-round.invariant in
+    subst (λ n. Driven g.L.Lock c.args.slots.count c.args.lock.now n c.take_turns-2.new.lock) (all_done _ _ _ c.count-count.ensures) (c.take_turns-2.ensures c.args.lock.now d)

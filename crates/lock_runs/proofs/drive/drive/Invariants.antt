@@ -1,7 +1,7 @@
-use Rattle.std.proofs.Common.{◌≡◌, ◌+◌, ◌*◌, ◌<◌, ◌≤◌}
+use Rattle.std.proofs.Common.{◌*◌}
 use Rattle.lock_runs.specs.Drive.{Driven}
 use Rattle.lock_runs.proofs.drive.drive.Given as goal
 
-abbrev pub invariant-loop-k : goal.invariant-loop-k
-invariant-loop-k g l =
-    (l.slot < l.slots) × (l.round ≤ l._k) × (l._k ≡ l.round * l.slots + l.slot) × Driven g.L.Lock l.slots l.initial.lock l._k l.lock
+-- as many operations have been done as the rounds have
+abbrev pub invariant-loop-round : goal.invariant-loop-round
+invariant-loop-round g l = Driven g.L.Lock l.slots.count l.initial.lock (l.round * l.slots.count) l.lock

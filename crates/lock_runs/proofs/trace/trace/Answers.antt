@@ -1,4 +1,4 @@
-use Rattle.std.proofs.Common.{string_bytes}
+use Rattle.std.proofs.Common.{string_bytes, subst}
 use Rattle.lock_runs.proofs.Traces.{begins, goes, ends}
 use Rattle.lock_runs.proofs.trace.trace.Goals as goal
 
@@ -14,6 +14,6 @@ pub returns : goal.returns
 returns g c = record {
   first = c.fresh-lock.result;
   last = c.loop-line.lock;
-  opened = c.fresh-lock.ensures;
+  opened = subst (λ n. g.L.Lock.opens n c.fresh-lock.result) c.in-Some.ensures c.fresh-lock.ensures;
   traced = ends g.L.Lock g.L.Shown.shows c.fresh-lock.result c.loop-line.lock c.args.lines.now c.loop-line.line-index _ c.loop-line-test.false c.loop-line.invariant;
 }

@@ -1,6 +1,6 @@
 use Rattle.std.proofs.Common.{◌≡◌, length, arith, rules}
 use Rattle.lock_runs.proofs.Digits.{one_digit, two_digits}
-use Rattle.lock_runs.proofs.script.read_slot.Goals as goal
+use Rattle.lock_runs.proofs.script.read_index.Goals as goal
 
 pub returns-in-48-to-57 : goal.returns-in-48-to-57
 returns-in-48-to-57 c =
