@@ -14,7 +14,11 @@ impl Slot {
     pub fn new(index: usize) -> Option<Slot>
         ensures { MatchOption result (32 ≤ index) (λ s. s.index ≡ index) }
     {
-        if index < MOST { Some(Slot { index }) } else { None }
+        if index < MOST {
+            Some(Slot { index })
+        } else {
+            None
+        }
     }
 
     pub fn index(self) -> usize

@@ -14,7 +14,7 @@ impl Slots {
     pub fn new(count: usize) -> Option<Slots>
         ensures { MatchOption result ((1 ≤ count) × (count ≤ 32) → ⊥) (λ s. s.count ≡ count) }
     {
-        if 1 <= count && count <= MOST {
+        if (1..=MOST).contains(&count) {
             Some(Slots { count })
         } else {
             None
@@ -31,6 +31,10 @@ impl Slots {
     pub fn get(self, index: usize) -> Option<Slot>
         ensures { MatchOption result (self.count ≤ index) (λ s. (s.index ≡ index) × (index < self.count)) }
     {
-        if index < self.count { Slot::new(index) } else { None }
+        if index < self.count {
+            Slot::new(index)
+        } else {
+            None
+        }
     }
 }

@@ -13,9 +13,7 @@ impl<T: Copy> Table<T> {
     pub fn filled(row: T) -> Table<T>
         ensures { result.slots ≡ replicate 32 row }
     {
-        Table {
-            slots: [row; MOST],
-        }
+        Table { slots: [row; MOST] }
     }
 
     // The slot of this number, if the table has a row for it.
