@@ -1,5 +1,5 @@
--- The invariant of the lock's words and line, and that each move of a slot keeps it.
-use Rattle.std.specs.Prelude.{◌≡◌, ℕ, zero, suc, ◌+◌, ◌<◌, Bool, true, false, cond, List, [], ◌∷◌, ◌++◌, length, replicate, ◌==◌, ◌≢◌, slice_index_or, refl}
+-- Each move of a slot keeps the invariant of the words and the line.
+use Rattle.std.specs.Prelude.{◌≡◌, ℕ, zero, suc, ◌+◌, ◌<◌, ◌≤◌, Bool, true, false, cond, List, [], length, replicate, ◌==◌, ◌≢◌, slice_index_or, refl}
 use Rattle.std.proofs.Common.{sym, ap, subst, ◌∙◌, arith, length-set, get_or-set_same, get_or-set_other}
 use Rattle.std.proofs.lemmas.Bool.{eqb-true}
 use Rattle.lock.specs.Line.{arrives, without}
@@ -8,6 +8,7 @@ use Rattle.lock.specs.declared.words.Class.{Class}
 use Rattle.lock.specs.declared.words.Class.TheVariants.{Reading, Writing}
 use Rattle.lock.specs.declared.words.Phase.TheVariants.{Idle, Holds}
 use Rattle.ticket_lock.specs.Invariant.{Fits, Keeps}
+use Rattle.ticket_lock.specs.Lock.{phases}
 use Rattle.ticket_lock.specs.Order.{adv, reads, writes, read_leaves, write_leaves, readers_ahead, writers_ahead}
 use Rattle.ticket_lock.specs.Counts.{no, among_none}
 use Rattle.ticket_lock.specs.Sound.{Alone, line_few, no_writers, no_readers}
@@ -129,8 +130,8 @@ step_at_keeps {w} {l} h i T6 lt e m =
 step_at_keeps h i ReaderH lt e m = absurd m
 step_at_keeps h i WriterH lt e m = absurd m
 
-pub step_keeps : {w : Words} {l : List ℕ} → Keeps w l → (i : ℕ) → i < 32 → steps_from (phase_of (stands_at w i)) (Unit {0}) ⊥ → Keeps (stepped w i) (arrives (phase_of (stands_at w i)) i l)
-step_keeps {w} h i lt m = step_at_keeps h i (stands_at w i) lt refl m
+pub keeps_stepped : (w : Words) (l : List ℕ) (i : ℕ) → Keeps w l → i < 32 → steps_from (phases w i) (Unit {0}) ⊥ → Keeps (stepped w i) (arrives (phases w i) i l)
+keeps_stepped w l i h lt m = step_at_keeps h i (stands_at w i) lt refl m
 
 pub idle_is : (x : Standing) → phase_of x ≡ Idle → x ≡ I
 idle_is I e = refl
@@ -147,8 +148,8 @@ call_at_keeps : {w : Words} {l : List ℕ} → Keeps w l → (i : ℕ) (class : 
 call_at_keeps h i Reading lt e = restands h i I T1 lt e (alike I T1 refl refl refl refl) tt
 call_at_keeps h i Writing lt e = restands h i I T4 lt e (alike I T4 refl refl refl refl) tt
 
-pub call_keeps : {w : Words} {l : List ℕ} → Keeps w l → (i : ℕ) (class : Class) → i < 32 → phase_of (stands_at w i) ≡ Idle → Keeps (called w i class) l
-call_keeps {w} {l} h i class lt e =
+pub keeps_called : (w : Words) (l : List ℕ) (i : ℕ) (class : Class) → Keeps w l → i < 32 → phases w i ≡ Idle → Keeps (called w i class) l
+keeps_called w l i class h lt e =
     let z = idle_is (stands_at w i) e in
     subst (λ x. Keeps (written w i (called_standing x class) (kept_by w i) w.requests w.completions) l) (sym z) (call_at_keeps h i class lt z)
 
@@ -173,8 +174,8 @@ finish_at_keeps {w} {l} h i WriterH lt e m =
       sound = writer_quits (alone w i T6 k r c lt h.full) h.sound e (stands_here w i T6 k r c lt h.full);
     }
 
-pub finish_keeps : {w : Words} {l : List ℕ} → Keeps w l → (i : ℕ) → i < 32 → phase_of (stands_at w i) ≡ Holds → Keeps (finished w i) (without i l)
-finish_keeps {w} h i lt m = finish_at_keeps h i (stands_at w i) lt refl m
+pub keeps_finished : (w : Words) (l : List ℕ) (i : ℕ) → Keeps w l → i < 32 → phases w i ≡ Holds → Keeps (finished w i) (without i l)
+keeps_finished w l i h lt m = finish_at_keeps h i (stands_at w i) lt refl m
 
 -- fresh words with nobody in line
 pub all_idle : (n j : ℕ) → (slice_index_or (replicate n unused) j unused).standing ≡ I
@@ -182,8 +183,8 @@ all_idle zero j = refl
 all_idle (suc n) zero = refl
 all_idle (suc n) (suc j) = all_idle n j
 
-pub fresh_keeps : Keeps fresh_words []
-fresh_keeps =
+pub keeps_begun : Keeps fresh_words []
+keeps_begun =
     let a = stands_at fresh_words in
     let idle : (j : ℕ) → a j ≡ I = all_idle 32 in
     let nr : readers_ahead a [] 32 ≡ 0 = let z = among_none (λ x. read_leaves (a x)) 32 (λ x. ap read_leaves (idle x)) in omega arith in
@@ -197,3 +198,6 @@ fresh_keeps =
         fits = λ i. subst (λ x. Fits x (kept_by fresh_words i) 0 (readers_ahead a [] i) (writers_ahead a [] i)) (sym (idle i)) tt;
       };
     }
+
+pub keeps_few : (w : Words) (l : List ℕ) → Keeps w l → length l ≤ 32
+keeps_few w l h = line_few 32 h.sound h.sound.off

@@ -4,25 +4,30 @@ use Rattle.std.proofs.lemmas.Bool.{eqb-true, eqb-false, cases_eq}
 use Rattle.lock.specs.Line.{arrives, without}
 use Rattle.lock.specs.Meaning.{steps_from}
 use Rattle.lock.specs.Progress.{Goes, rests, calls, steps, works, finishes, AtMost, longest_hold}
-use Rattle.lock.specs.declared.meaning.Lock as lock
 use Rattle.lock.specs.declared.words.Class.{Class}
 use Rattle.lock.specs.declared.words.Class.TheVariants.{Reading, Writing}
 use Rattle.lock.specs.declared.words.Phase.TheVariants.{Waits}
-use Rattle.ticket_lock.specs.Lock.{phases, classes, bars, labels, line_of, Opens, Calls, Steps, Finishes}
+use Rattle.lined_lock.specs.Lock.{phases, line_of, Calls, Steps, Finishes}
 use Rattle.ticket_lock.specs.Order.{times, before, among, adv, reads, writes, read_leaves, write_leaves, readers_ahead, writers_ahead}
-use Rattle.ticket_lock.specs.declared.ticket.TicketLock.{TicketLock}
+use Rattle.ticket_lock.specs.Ticket.{TicketLock, ticket}
 use Rattle.ticket_lock.specs.Counts.{no, only, only_passed, before_without, before_sum, before_agree, before_end_in, among_moved, heads, head_times, head_before, head_end, before_mono, before_falls}
-use Rattle.ticket_lock.specs.Kept.{sound_of, fit_at, idle_is}
-use Rattle.ticket_lock.specs.Laws.{calls_becomes, steps_becomes, finishes_becomes, holds_is}
+use Rattle.ticket_lock.specs.Kept.{fit_at, idle_is}
+use Rattle.ticket_lock.specs.Laws.{Becomes, becomes, called_becomes, holds_is}
 use Rattle.ticket_words.specs.Counting.{lower, upper}
 use Rattle.ticket_words.specs.Places.{phase_of}
 use Rattle.ticket_words.specs.Steps.{stands_at, kept_by, next_standing, called_standing, finished_standing}
-use Rattle.ticket_words.specs.declared.standing.Label.{Label}
 use Rattle.ticket_words.specs.declared.standing.Standing.{Standing}
 use Rattle.ticket_words.specs.declared.standing.Standing.TheVariants.{I, T1, T2, T3, T4, T5, T6, ReaderH, WriterH}
 
-abbrev pub ticket : lock.Ghosts TicketLock Label
-ticket = record { phases = phases; classes = classes; bars = bars; labels = labels; opens = Opens; calls = Calls; steps = Steps; finishes = Finishes }
+-- where each slot stands after a move of the lock
+pub calls_becomes : (s : TicketLock) (i : ℕ) (c : Class) (t : TicketLock) → i < 32 → Calls s i c t → Becomes s.words i (called_standing I c) t.words
+calls_becomes s i c t lt m = subst (Becomes s.words i (called_standing I c)) (sym m.words) (called_becomes s.words i c s.keeps.full lt m.idle)
+
+pub steps_becomes : (s : TicketLock) (i : ℕ) (t : TicketLock) → i < 32 → Steps s i t → Becomes s.words i (next_standing (stands_at s.words i) (kept_by s.words i) s.words.completions) t.words
+steps_becomes s i t lt m = subst (Becomes s.words i _) (sym m.words) (becomes s.words i _ _ _ _ lt s.keeps.full)
+
+pub finishes_becomes : (s : TicketLock) (i : ℕ) (t : TicketLock) → i < 32 → Finishes s i t → Becomes s.words i (finished_standing (stands_at s.words i)) t.words
+finishes_becomes s i t lt m = subst (Becomes s.words i _) (sym m.words) (becomes s.words i _ _ _ _ lt s.keeps.full)
 
 -- the turns that a slot has left till it is counted out
 abbrev pub weight : Standing → ℕ → ℕ
@@ -122,7 +127,7 @@ still {s} {t} {f} {g} {i} {j} o q z y m fl =
 
 -- where a slot stands, what of it stays in line
 pub in_line_of : (s : TicketLock) (i : ℕ) (x : Standing) → stands_at s.words i ≡ x → reads x + writes x ≡ 0 → heads (line_of s) i ≡ true → ⊥
-in_line_of s i x e z h = let t = s.lined i in let u = ap (λ y. reads y + writes y) e in let m = head_times (line_of s) i h in omega arith
+in_line_of s i x e z h = let t = s.keeps.sound.lined i in let u = ap (λ y. reads y + writes y) e in let m = head_times (line_of s) i h in omega arith
 
 -- slot i joins the line behind j
 joining : {s t : TicketLock} {f g : ℕ → ℕ} {i j : ℕ} → Others s t f g i → line_of t ≡ line_of s ++ (i ∷ []) → (x : Standing) → stands_at s.words i ≡ x → reads x + writes x ≡ 0 → leaves x ≡ 0 → leaves (stands_at t.words i) ≡ 0 → 1 ≤ times j (line_of s) → Fine s t f g i j
@@ -130,7 +135,7 @@ joining {s} {t} {f} {g} {i} {j} o q x e z y w m =
     let v = ap leaves e in
     let n : gone t ≡ gone s = let u = gone_moved o in omega arith in
     let a = before_end_in (load t g) j i (line_of s) m in
-    let b = before_agree (load s f) (load t g) j (line_of s) (λ y k. same_load o y (λ d. let t = s.lined i in let u = ap (λ y. reads y + writes y) e in let c = ap (λ v. times v (line_of s)) d in omega arith)) in
+    let b = before_agree (load s f) (load t g) j (line_of s) (λ y k. same_load o y (λ d. let t = s.keeps.sound.lined i in let u = ap (λ y. reads y + writes y) e in let c = ap (λ v. times v (line_of s)) d in omega arith)) in
     let r = ap (before (load t g) j) q in
     record {
       le = omega arith;
@@ -189,8 +194,8 @@ waits_is WriterH e = no (cc)
 
 pub waits_lined : (s : TicketLock) (j : ℕ) → phases s j ≡ Waits → 1 ≤ times j (line_of s)
 waits_lined s j e = elim (waits_is _ e) [
-  | inl q ↦ let t = s.lined j in let u = ap (λ y. reads y + writes y) q in omega arith
-  | inr q ↦ let t = s.lined j in let u = ap (λ y. reads y + writes y) q in omega arith
+  | inl q ↦ let t = s.keeps.sound.lined j in let u = ap (λ y. reads y + writes y) q in omega arith
+  | inr q ↦ let t = s.keeps.sound.lined j in let u = ap (λ y. reads y + writes y) q in omega arith
 ]
 
 -- the first in line, when nobody leaves, has a true test
@@ -198,7 +203,7 @@ first_reader : (s : TicketLock) (i : ℕ) → stands_at s.words i ≡ T2 → gon
 first_reader s i e z h =
     let b = head_before (λ x. writes (stands_at s.words x)) (line_of s) i h in
     let w : writers_ahead (stands_at s.words) (line_of s) i ≡ 0 = omega arith in
-    sym (fit_at (sound_of s) i T2 e ∙ ap (adv (lower s.words.completions)) w)
+    sym (fit_at s.keeps i T2 e ∙ ap (adv (lower s.words.completions)) w)
 
 first_writer : (s : TicketLock) (i : ℕ) → stands_at s.words i ≡ T5 → gone s ≡ 0 → heads (line_of s) i ≡ true → s.words.completions ≡ kept_by s.words i
 first_writer s i e z h =
@@ -206,7 +211,7 @@ first_writer s i e z h =
     let d = head_before (λ x. reads (stands_at s.words x)) (line_of s) i h in
     let w : writers_ahead (stands_at s.words) (line_of s) i ≡ 0 = omega arith in
     let r : readers_ahead (stands_at s.words) (line_of s) i ≡ 0 = omega arith in
-    let f = fit_at (sound_of s) i T5 e in
+    let f = fit_at s.keeps i T5 e in
     let lo : lower (kept_by s.words i) ≡ lower s.words.completions = f.0 ∙ ap (adv (lower s.words.completions)) w in
     let up : upper (kept_by s.words i) ≡ upper s.words.completions = f.1 ∙ ap (adv (upper s.words.completions)) r in
     omega arith
@@ -257,24 +262,24 @@ holding_load x n (inr e) = (ap (λ y. weight y n) e, ap leaves e, ap (λ y. leav
 holder_before : (s : TicketLock) (i j : ℕ) → (j ≡ i → ⊥) → free s j ≡ false → (stands_at s.words j ≡ T2) ⊎ (stands_at s.words j ≡ T5) → (stands_at s.words i ≡ ReaderH) ⊎ (stands_at s.words i ≡ WriterH) → before (only i 2) j (line_of s) ≡ 2
 holder_before s i j n z w (inl e) =
     let a : ℕ → Standing = stands_at s.words in
-    let h : writers_ahead a (line_of s) i ≡ 0 = fit_at (sound_of s) i ReaderH e in
-    let t = s.lined j in
+    let h : writers_ahead a (line_of s) i ≡ 0 = fit_at s.keeps i ReaderH e in
+    let t = s.keeps.sound.lined j in
     let p : times j (line_of s) ≤ writes (a j) + before (λ x. writes (a x)) j (line_of s) = elim w [
       | inl q ↦
           let u = ap (λ y. reads y + writes y) q in
-          let v : writers_ahead a (line_of s) j ≡ 0 → ⊥ = λ y. eqb-false _ _ (free_at s j T2 false q z) (sym (fit_at (sound_of s) j T2 q ∙ ap (adv (lower s.words.completions)) y)) in
+          let v : writers_ahead a (line_of s) j ≡ 0 → ⊥ = λ y. eqb-false _ _ (free_at s j T2 false q z) (sym (fit_at s.keeps j T2 q ∙ ap (adv (lower s.words.completions)) y)) in
           omega arith
       | inr q ↦ let u = ap (λ y. reads y + writes y) q in let v = ap writes q in omega arith
     ] in
-    only_passed (λ x. writes (a x)) 2 i j (line_of s) n (omega arith) p (s.lined i ∙ ap (λ y. reads y + writes y) e)
+    only_passed (λ x. writes (a x)) 2 i j (line_of s) n (omega arith) p (s.keeps.sound.lined i ∙ ap (λ y. reads y + writes y) e)
 holder_before s i j n z w (inr e) =
     let a : ℕ → Standing = stands_at s.words in
-    let h = fit_at (sound_of s) i WriterH e in
+    let h = fit_at s.keeps i WriterH e in
     let u = h.0 in
     let v = h.1 in
     let k = before_sum (λ x. reads (a x)) (λ x. writes (a x)) i (line_of s) in
-    let t = s.lined j in
-    only_passed (λ x. reads (a x) + writes (a x)) 2 i j (line_of s) n (omega arith) (omega arith) (s.lined i ∙ ap (λ y. reads y + writes y) e)
+    let t = s.keeps.sound.lined j in
+    only_passed (λ x. reads (a x) + writes (a x)) 2 i j (line_of s) n (omega arith) (omega arith) (s.keeps.sound.lined i ∙ ap (λ y. reads y + writes y) e)
 
 pub goes_fine : (s t : TicketLock) (f g : ℕ → ℕ) (i j : ℕ) → i < 32 → AtMost longest_hold g → phases s j ≡ Waits → phases t j ≡ Waits → free s j ≡ false → Goes ticket s f i t g → Fine s t f g i j
 goes_fine s t f g i j lt sm a b z (rests e q m) =

@@ -6,17 +6,18 @@ use Rattle.lock.specs.Meaning.{steps_from}
 use Rattle.lock.specs.declared.words.Class.{Class}
 use Rattle.lock.specs.declared.words.Class.TheVariants.{Reading}
 use Rattle.lock.specs.declared.words.Phase.TheVariants.{Holds}
-use Rattle.ticket_lock.specs.Lock.{phases, classes, line_of, Steps}
+use Rattle.ticket_lock.specs.Invariant.{Keeps}
+use Rattle.ticket_lock.specs.Lock.{phases, classes}
 use Rattle.ticket_lock.specs.Order.{times, before, reads, writes}
-use Rattle.ticket_lock.specs.declared.ticket.TicketLock.{TicketLock}
 use Rattle.ticket_lock.specs.Counts.{no, times_hit, times_miss, before_miss, before_sum}
-use Rattle.ticket_lock.specs.Kept.{sound_of, reader_free, writer_free}
-use Rattle.ticket_lock.specs.Laws.{in_line_at, steps_becomes}
+use Rattle.ticket_lock.specs.Kept.{reader_free, writer_free}
+use Rattle.ticket_lock.specs.Laws.{Becomes, becomes, in_line_at}
 use Rattle.ticket_words.specs.Counting.{lower}
 use Rattle.ticket_words.specs.Places.{phase_of, class_of}
-use Rattle.ticket_words.specs.Steps.{stands_at, kept_by, next_standing}
+use Rattle.ticket_words.specs.Steps.{stands_at, kept_by, next_standing, stepped}
 use Rattle.ticket_words.specs.declared.standing.Standing.{Standing}
 use Rattle.ticket_words.specs.declared.standing.Standing.TheVariants.{I, T1, T2, T3, T4, T5, T6, ReaderH, WriterH}
+use Rattle.ticket_words.specs.declared.words.Words.{Words}
 
 -- who stands in a line stands in a longer one
 later : (x y : ℕ) (l : List ℕ) → 1 ≤ times y l → 1 ≤ times y (x ∷ l)
@@ -52,36 +53,34 @@ reads_class T6 a b = absurd (omega arith)
 reads_class ReaderH a b = refl
 reads_class WriterH a b = absurd (omega arith)
 
-reader_turn : (s : TicketLock) (i : ℕ) → stands_at s.words i ≡ T2 → (b : Bool) → eqb (lower s.words.completions) (kept_by s.words i) ≡ b → phase_of (cond b ReaderH T2) ≡ Holds → NoWriterBefore (classes s) i (line_of s)
-reader_turn s i e true z p =
-    let h = sound_of s in
+reader_turn : {w : Words} {l : List ℕ} → Keeps w l → (i : ℕ) → stands_at w i ≡ T2 → (b : Bool) → eqb (lower w.completions) (kept_by w i) ≡ b → phase_of (cond b ReaderH T2) ≡ Holds → NoWriterBefore (classes w) i l
+reader_turn {w} {l} h i e true z p =
     let f = reader_free h i e z in
-    no_writer_in (classes s) (λ x. writes (stands_at s.words x)) i (line_of s) (λ x m q. reads_class _ (let t = s.lined x in omega arith) q) (omega arith) (in_line_at h i T2 e (omega arith))
-reader_turn s i e false z p = no (cc)
+    no_writer_in (classes w) (λ x. writes (stands_at w x)) i l (λ x m q. reads_class _ (let t = h.sound.lined x in omega arith) q) (omega arith) (in_line_at h i T2 e (omega arith))
+reader_turn h i e false z p = no (cc)
 
-writer_turn : (s : TicketLock) (i : ℕ) → stands_at s.words i ≡ T5 → (b : Bool) → eqb s.words.completions (kept_by s.words i) ≡ b → phase_of (cond b WriterH T5) ≡ Holds → First i (line_of s)
-writer_turn s i e true z p =
-    let h = sound_of s in
+writer_turn : {w : Words} {l : List ℕ} → Keeps w l → (i : ℕ) → stands_at w i ≡ T5 → (b : Bool) → eqb w.completions (kept_by w i) ≡ b → phase_of (cond b WriterH T5) ≡ Holds → First i l
+writer_turn {w} {l} h i e true z p =
     let f = writer_free h i e z in
     let u = f.0 in
     let v = f.1 in
-    let a : ℕ → Standing = stands_at s.words in
-    let q = before_sum (λ x. reads (a x)) (λ x. writes (a x)) i (line_of s) in
-    first_in (λ x. reads (a x) + writes (a x)) i (line_of s) (λ x m. let t = s.lined x in omega arith) (omega arith) (in_line_at h i T5 e (omega arith))
-writer_turn s i e false z p = no (cc)
+    let a : ℕ → Standing = stands_at w in
+    let q = before_sum (λ x. reads (a x)) (λ x. writes (a x)) i l in
+    first_in (λ x. reads (a x) + writes (a x)) i l (λ x m. let t = h.sound.lined x in omega arith) (omega arith) (in_line_at h i T5 e (omega arith))
+writer_turn h i e false z p = no (cc)
 
-turn_at : (s : TicketLock) (i : ℕ) (x : Standing) → stands_at s.words i ≡ x → steps_from (phase_of x) (Unit {0}) ⊥ → phase_of (next_standing x (kept_by s.words i) s.words.completions) ≡ Holds → Turn (class_of x) (classes s) i (arrives (phase_of x) i (line_of s))
-turn_at s i I e m p = absurd m
-turn_at s i T1 e m p = no (cc)
-turn_at s i T2 e m p = reader_turn s i e _ refl p
-turn_at s i T3 e m p = no (cc)
-turn_at s i T4 e m p = no (cc)
-turn_at s i T5 e m p = writer_turn s i e _ refl p
-turn_at s i T6 e m p = no (cc)
-turn_at s i ReaderH e m p = absurd m
-turn_at s i WriterH e m p = absurd m
+turn_at : {w : Words} {l : List ℕ} → Keeps w l → (i : ℕ) (x : Standing) → stands_at w i ≡ x → steps_from (phase_of x) (Unit {0}) ⊥ → phase_of (next_standing x (kept_by w i) w.completions) ≡ Holds → Turn (class_of x) (classes w) i (arrives (phase_of x) i l)
+turn_at h i I e m p = absurd m
+turn_at h i T1 e m p = no (cc)
+turn_at h i T2 e m p = reader_turn h i e _ refl p
+turn_at h i T3 e m p = no (cc)
+turn_at h i T4 e m p = no (cc)
+turn_at h i T5 e m p = writer_turn h i e _ refl p
+turn_at h i T6 e m p = no (cc)
+turn_at h i ReaderH e m p = absurd m
+turn_at h i WriterH e m p = absurd m
 
-pub turn : (s : TicketLock) (i : ℕ) (t : TicketLock) → i < 32 → Steps s i t → phases t i ≡ Holds → Turn (classes s i) (classes s) i (line_of t)
-turn s i t lt m p =
-    let b = steps_becomes s i t lt m in
-    subst (Turn (classes s i) (classes s) i) (sym m.arrived) (turn_at s i (stands_at s.words i) refl m.moves (sym (ap phase_of b.here) ∙ p))
+pub in_turn : (w : Words) (l : List ℕ) (i : ℕ) → Keeps w l → i < 32 → steps_from (phases w i) (Unit {0}) ⊥ → phases (stepped w i) i ≡ Holds → Turn (classes w i) (classes w) i (arrives (phases w i) i l)
+in_turn w l i h lt m p =
+    let b : Becomes w i (next_standing (stands_at w i) (kept_by w i) w.completions) (stepped w i) = becomes w i _ _ _ _ lt h.full in
+    turn_at h i (stands_at w i) refl m (sym (ap phase_of b.here) ∙ p)

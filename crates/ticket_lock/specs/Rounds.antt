@@ -4,13 +4,13 @@ use Rattle.std.proofs.lemmas.Bool.{eq-eqb, eqb-true, eqb-false, cases_eq, cases_
 use Rattle.lock.specs.Meaning.{steps_from}
 use Rattle.lock.specs.Progress.{Goes, rests, calls, steps, works, finishes, AtMost, longest_hold, rounds_a_slot, Turns, Falls, Below, Waiting, Going, Progress}
 use Rattle.lock.specs.declared.words.Phase.TheVariants.{Idle, Waits, Holds, Leaves}
-use Rattle.ticket_lock.specs.Lock.{phases, line_of, Steps}
+use Rattle.lined_lock.specs.Lock.{phases, line_of, Steps}
 use Rattle.ticket_lock.specs.Order.{among, read_leaves, write_leaves, readers_ahead, writers_ahead}
-use Rattle.ticket_lock.specs.declared.ticket.TicketLock.{TicketLock}
+use Rattle.ticket_lock.specs.Ticket.{TicketLock, ticket}
 use Rattle.ticket_lock.specs.Counts.{no, among_at, among_few, among_some, heads, head_some, before_few}
-use Rattle.ticket_lock.specs.Kept.{sound_of, idle_is, lower_read, reader_free, writer_free}
-use Rattle.ticket_lock.specs.Laws.{steps_becomes, finishes_becomes, holds_is}
-use Rattle.ticket_lock.proofs.Paces.{ticket, weight, load, leaves, gone, ahead, leads, leads_is, goes_fine, Others, goes_others, same_load, test, free, free_at, waits_is, waits_lined, in_line_of, holding_load}
+use Rattle.ticket_lock.specs.Kept.{idle_is, lower_read, reader_free, writer_free}
+use Rattle.ticket_lock.specs.Laws.{holds_is}
+use Rattle.ticket_lock.specs.Paces.{steps_becomes, finishes_becomes, weight, load, leaves, gone, ahead, leads, leads_is, goes_fine, Others, goes_others, same_load, test, free, free_at, waits_is, waits_lined, in_line_of, holding_load}
 use Rattle.ticket_lock.specs.Sound.{line_few, once}
 use Rattle.ticket_words.specs.Counting.{lower}
 use Rattle.ticket_words.specs.Places.{phase_of}
@@ -73,7 +73,7 @@ stays_free : (s t : TicketLock) (f g : ℕ → ℕ) (i j : ℕ) → i < 32 → (
 stays_free s t f g i j lt n z (inl e) m =
     let o = goes_others s t f g i lt m in
     let k = free_at s j T2 true e z in
-    let w = reader_free (sound_of s) j e k in
+    let w = reader_free s.keeps j e k in
     let c : lower t.words.completions ≡ lower s.words.completions = elim (goes_completions s t f g i m) [
       | inl q ↦ ap lower q
       | inr q ↦ ap lower q ∙ lower_next s i j lt w (stands_at s.words i) refl
@@ -82,7 +82,7 @@ stays_free s t f g i j lt n z (inl e) m =
 stays_free s t f g i j lt n z (inr e) m =
     let o = goes_others s t f g i lt m in
     let k = free_at s j T5 true e z in
-    let w = writer_free (sound_of s) j e k in
+    let w = writer_free s.keeps j e k in
     let c : t.words.completions ≡ s.words.completions = elim (goes_completions s t f g i m) [
       | inl q ↦ q
       | inr q ↦ q ∙ word_next s i j lt w.0 w.1 (stands_at s.words i) refl
@@ -173,7 +173,7 @@ rank_low false m n h p = omega arith
 enters_low : (n : ℕ) (s : TicketLock) (f : ℕ → ℕ) (j : ℕ) → j < n → Below ticket n s → AtMost longest_hold f → Waiting ticket s j → rank_by (free s j) (ahead s f j) + 2 ≤ rounds_a_slot * n
 enters_low n s f j lt bl sm a =
     let idle : (x : ℕ) → n ≤ x → stands_at s.words x ≡ I = λ x h. idle_is _ (bl x h) in
-    let l = line_few n (sound_of s).sound idle in
+    let l = line_few n s.keeps.sound idle in
     let p = before_few (load s f) (longest_hold + 2) j (line_of s) (λ x. weight_low (stands_at s.words x) (f x) (sm x)) (waits_lined s j a) in
     let r = among_few (λ x. read_leaves (stands_at s.words x)) 32 n (λ x. let u = once (stands_at s.words x) in omega arith) (λ x h. ap read_leaves (idle x h)) in
     let w = among_few (λ x. write_leaves (stands_at s.words x)) 32 n (λ x. let u = once (stands_at s.words x) in omega arith) (λ x h. ap write_leaves (idle x h)) in
