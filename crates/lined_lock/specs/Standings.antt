@@ -20,23 +20,23 @@ module _ {S : Type 0} (phase_of : S → Phase) (class_of : S → Class) where
     | inr u ↦ ap class_of (o j u)
   ]
 
-  pub calls_in : (a b : ℕ → S) (p q : ℕ → Bool) (i : ℕ) (c : Class) → phase_of (a i) ≡ Idle → (c ≡ Writing → p i ≡ false) → ((j : ℕ) → (j ≢ i) → b j ≡ a j) → phase_of (b i) ≡ Called → class_of (b i) ≡ c → CalledIn (stand_for a p) i c (stand_for b q)
-  calls_in a b p q i c e f o h k = record {
+  pub call_means : (a b : ℕ → S) (p q : ℕ → Bool) (i : ℕ) (c : Class) → phase_of (a i) ≡ Idle → (c ≡ Writing → p i ≡ false) → ((j : ℕ) → (j ≢ i) → b j ≡ a j) → phase_of (b i) ≡ Called → class_of (b i) ≡ c → CalledIn (stand_for a p) i c (stand_for b q)
+  call_means a b p q i c e f o h k = record {
     idle = e;
     free = f;
     phase = record { here = h; others = λ j n. ap phase_of (o j n) };
     class = record { here = k; others = λ j n. ap class_of (o j n) };
   }
 
-  pub steps_on : (a b : ℕ → S) (p q : ℕ → Bool) (i : ℕ) → Reaches (stand_for a p) i (phase_of (a i)) (phase_of (b i)) → ((j : ℕ) → (j ≢ i) → b j ≡ a j) → ((phase_of (b i) ≢ Idle) → class_of (b i) ≡ class_of (a i)) → Stepped (stand_for a p) i (stand_for b q)
-  steps_on a b p q i r o f = record {
+  pub step_means : (a b : ℕ → S) (p q : ℕ → Bool) (i : ℕ) → Reaches (stand_for a p) i (phase_of (a i)) (phase_of (b i)) → ((j : ℕ) → (j ≢ i) → b j ≡ a j) → ((phase_of (b i) ≢ Idle) → class_of (b i) ≡ class_of (a i)) → Stepped (stand_for a p) i (stand_for b q)
+  step_means a b p q i r o f = record {
     reaches = r;
     others = record { here = refl; others = λ j n. ap phase_of (o j n) };
     class = keeps_class a b p q i o f;
   }
 
-  pub ends : (a b : ℕ → S) (p q : ℕ → Bool) (i : ℕ) → phase_of (a i) ≡ Holds → ((j : ℕ) → (j ≢ i) → b j ≡ a j) → phase_of (b i) ≡ Leaves → class_of (b i) ≡ class_of (a i) → Finished (stand_for a p) i (stand_for b q)
-  ends a b p q i e o h k = record {
+  pub finish_means : (a b : ℕ → S) (p q : ℕ → Bool) (i : ℕ) → phase_of (a i) ≡ Holds → ((j : ℕ) → (j ≢ i) → b j ≡ a j) → phase_of (b i) ≡ Leaves → class_of (b i) ≡ class_of (a i) → Finished (stand_for a p) i (stand_for b q)
+  finish_means a b p q i e o h k = record {
     holds = e;
     phase = record { here = h; others = λ j n. ap phase_of (o j n) };
     class = keeps_class a b p q i o (λ n. k);

@@ -1,7 +1,7 @@
 -- The ticket lock's moves mean what a lock's are to mean.
 use Rattle.std.specs.Prelude.{◌≡◌, ℕ, ◌+◌, ◌<◌, ◌≤◌, Bool, true, false, cond, ◌⊎◌, List, length, ◌==◌, ◌≢◌, refl}
 use Rattle.std.proofs.Common.{sym, ap, subst, ◌∙◌, inl, inr, arith}
-use Rattle.lined_lock.specs.Standings.{calls_in, steps_on, ends}
+use Rattle.lined_lock.specs.Standings.{call_means, step_means, finish_means}
 use Rattle.lock.specs.Meaning.{Meaning, meant, CalledIn, MayHold, Reaches, Stepped, Finished, steps_from}
 use Rattle.lock.specs.declared.words.Class.{Class}
 use Rattle.lock.specs.declared.words.Class.TheVariants.{Reading, Writing}
@@ -47,7 +47,7 @@ called_class Writing = refl
 pub means_called : (w : Words) (l : List ℕ) (i : ℕ) (c : Class) → Keeps w l → i < 32 → phases w i ≡ Idle → (c ≡ Writing → bars w i ≡ false) → CalledIn (mean w) i c (mean (called w i c))
 means_called w l i c h lt e f =
     let b = called_becomes w i c h.full lt e in
-    calls_in phase_of class_of (stands_at w) (stands_at (called w i c)) (bars w) (bars (called w i c)) i c e f b.others (ap phase_of b.here ∙ called_phase c) (ap class_of b.here ∙ called_class c)
+    call_means phase_of class_of (stands_at w) (stands_at (called w i c)) (bars w) (bars (called w i c)) i c e f b.others (ap phase_of b.here ∙ called_phase c) (ap class_of b.here ∙ called_class c)
 
 -- who holds
 pub holds_is : (x : Standing) → phase_of x ≡ Holds → (x ≡ ReaderH) ⊎ (x ≡ WriterH)
@@ -132,7 +132,7 @@ class_next WriterH k c n = refl
 pub means_stepped : (w : Words) (l : List ℕ) (i : ℕ) → Keeps w l → i < 32 → steps_from (phases w i) (Unit {0}) ⊥ → Stepped (mean w) i (mean (stepped w i))
 means_stepped w l i h lt m =
     let b : Becomes w i (next_standing (stands_at w i) (kept_by w i) w.completions) (stepped w i) = becomes w i _ _ _ _ lt h.full in
-    steps_on phase_of class_of (stands_at w) (stands_at (stepped w i)) (bars w) (bars (stepped w i)) i
+    step_means phase_of class_of (stands_at w) (stands_at (stepped w i)) (bars w) (bars (stepped w i)) i
     (subst (Reaches (mean w) i (phases w i)) (sym (ap phase_of b.here)) (reaches h i (stands_at w i) refl m))
     b.others
     (subst (λ x. (phase_of x ≢ Idle) → class_of x ≡ classes w i) (sym b.here) (class_next (stands_at w i) _ _))
@@ -145,4 +145,4 @@ pub means_finished : (w : Words) (l : List ℕ) (i : ℕ) → Keeps w l → i < 
 means_finished w l i h lt e =
     let b : Becomes w i (finished_standing (stands_at w i)) (finished w i) = becomes w i _ _ _ _ lt h.full in
     let f = finished_leaves (stands_at w i) (holds_is _ e) in
-    ends phase_of class_of (stands_at w) (stands_at (finished w i)) (bars w) (bars (finished w i)) i e b.others (ap phase_of b.here ∙ f.0) (ap class_of b.here ∙ f.1)
+    finish_means phase_of class_of (stands_at w) (stands_at (finished w i)) (bars w) (bars (finished w i)) i e b.others (ap phase_of b.here ∙ f.0) (ap class_of b.here ∙ f.1)
