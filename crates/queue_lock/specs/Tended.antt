@@ -1,8 +1,10 @@
 -- The clauses on which progress rests: somebody is responsible for every hand-over.
-use Rattle.std.specs.Prelude.{◌≡◌, ℕ, true, ◌⊎◌, Some, None, ◌≢◌}
+use Rattle.std.specs.Prelude.{◌≡◌, ℕ, true, ◌⊎◌, List, length, Some, None, ◌≢◌}
+use Rattle.std.proofs.Props.{props}
 use Rattle.queue_lock.specs.Sets as is
-use Rattle.queue_lock.specs.Config.{Config}
+use Rattle.queue_lock.specs.Config.{Config, config}
 use Rattle.queue_lock.specs.Invariant.{Inv, owes}
+use Rattle.queue_words.specs.declared.words.Words.{Words}
 
 -- X2: who will wake slot s, or make it next writer
 abbrev pub Responsible : Config → ℕ → Type 0
@@ -20,3 +22,11 @@ pub record Tended (w : Config) : Type 0 where
 -- both, as a fact with one proof at most, which a ghost field asks for
 abbrev pub Sound : Config → Type 0
 Sound w = ∥ Inv w × Tended w ∥₁
+
+-- the invariant of the words and the line
+pub record Keeps (w : Words) (l : List ℕ) : Type 0 where
+  pub full : length w.table.slots ≡ 32
+  pub sound : Sound (config w l)
+
+pub keeps_once : (w : Words) (l : List ℕ) → IsProp (Keeps w l)
+keeps_once w l = hlevel props

@@ -3,4 +3,4 @@
 
 pub mod queue;
 
-pub use queue::QueueLock;
+pub use queue::{Queue, QueueLock};

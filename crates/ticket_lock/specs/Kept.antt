@@ -1,22 +1,17 @@
--- The invariant of the lock's words and line, and that each move of a slot keeps it.
-use Rattle.std.specs.Prelude.{◌≡◌, ℕ, zero, suc, ◌+◌, ◌<◌, Bool, true, false, cond, List, [], ◌∷◌, ◌++◌, length, replicate, ◌==◌, ◌≢◌, slice_index_or, refl}
+-- Each move of a slot keeps the invariant of the words and the line.
+use Rattle.std.specs.Prelude.{◌≡◌, ℕ, zero, suc, ◌+◌, ◌<◌, ◌≤◌, Bool, true, false, cond, List, [], length, replicate, ◌==◌, ◌≢◌, slice_index_or, refl}
 use Rattle.std.proofs.Common.{sym, ap, subst, ◌∙◌, arith, length-set, get_or-set_same, get_or-set_other}
-use Rattle.std.proofs.lemmas.List.{get_or_past, length_push}
 use Rattle.std.proofs.lemmas.Bool.{eqb-true}
-use Rattle.line_table.proofs.Rest.{pushed_room}
-use Rattle.line_table.specs.Lines.{in_line, pushed}
 use Rattle.lock.specs.Line.{arrives, without}
 use Rattle.lock.specs.Meaning.{steps_from}
 use Rattle.lock.specs.declared.words.Class.{Class}
 use Rattle.lock.specs.declared.words.Class.TheVariants.{Reading, Writing}
-use Rattle.lock.specs.declared.words.Phase.{Phase}
-use Rattle.lock.specs.declared.words.Phase.TheVariants.{Idle, Called, Waits, Holds, Leaves}
-use Rattle.ticket_lock.specs.Invariant.{Lined, Requested, Fits, Placed}
-use Rattle.ticket_lock.specs.Lock.{Arrived}
+use Rattle.lock.specs.declared.words.Phase.TheVariants.{Idle, Holds}
+use Rattle.ticket_lock.specs.Invariant.{Fits, Keeps}
+use Rattle.ticket_lock.specs.Lock.{phases}
 use Rattle.ticket_lock.specs.Order.{adv, reads, writes, read_leaves, write_leaves, readers_ahead, writers_ahead}
-use Rattle.ticket_lock.specs.declared.ticket.TicketLock.{TicketLock}
 use Rattle.ticket_lock.specs.Counts.{no, among_none}
-use Rattle.ticket_lock.specs.Sound.{Sound, Alone, line_few, no_writers, no_readers}
+use Rattle.ticket_lock.specs.Sound.{Alone, line_few, no_writers, no_readers}
 use Rattle.ticket_lock.specs.Moves.{Alike, quiet, reader_in, writer_in, reader_out, writer_out, reader_quits, writer_quits}
 use Rattle.ticket_words.specs.Counting.{lower, upper, counted, reader_counted, writer_counted}
 use Rattle.ticket_words.specs.Places.{unused, phase_of}
@@ -25,49 +20,8 @@ use Rattle.ticket_words.specs.declared.standing.Standing.{Standing}
 use Rattle.ticket_words.specs.declared.standing.Standing.TheVariants.{I, T1, T2, T3, T4, T5, T6, ReaderH, WriterH}
 use Rattle.ticket_words.specs.declared.words.Words.{Words}
 
-pub record Keeps (w : Words) (l : List ℕ) : Type 0 where
-  pub full : length w.table.slots ≡ 32
-  pub sound : Sound (stands_at w) (kept_by w) w.requests w.completions l
-
--- from the lock's ghost fields, and back
-fit : (w : Words) (l : List ℕ) (i : ℕ) → Placed T2 w l → Placed T5 w l → Placed ReaderH w l → Placed WriterH w l → (x : Standing) → stands_at w i ≡ x → Fits x (kept_by w i) w.completions (readers_ahead (stands_at w) l i) (writers_ahead (stands_at w) l i)
-fit w l i rw ww rh wh I e = tt
-fit w l i rw ww rh wh T1 e = tt
-fit w l i rw ww rh wh T2 e = rw i e
-fit w l i rw ww rh wh T3 e = tt
-fit w l i rw ww rh wh T4 e = tt
-fit w l i rw ww rh wh T5 e = ww i e
-fit w l i rw ww rh wh T6 e = tt
-fit w l i rw ww rh wh ReaderH e = rh i e
-fit w l i rw ww rh wh WriterH e = wh i e
-
-pub sound_of : (s : TicketLock) → Keeps s.words (in_line s.line)
-sound_of s = record {
-  full = s.full;
-  sound = record {
-    off = λ i h. ap (λ p. p.standing) (get_or_past s.words.table.slots i unused (let f = s.full in omega arith));
-    lined = s.lined;
-    requested = s.requested;
-    fits = λ i. fit s.words (in_line s.line) i s.readers_wait s.writers_wait s.readers_hold s.writers_hold _ refl;
-  };
-}
-
 pub fit_at : {w : Words} {l : List ℕ} → Keeps w l → (i : ℕ) (x : Standing) → stands_at w i ≡ x → Fits x (kept_by w i) w.completions (readers_ahead (stands_at w) l i) (writers_ahead (stands_at w) l i)
 fit_at {w} {l} h i x e = subst (λ y. Fits y (kept_by w i) w.completions (readers_ahead (stands_at w) l i) (writers_ahead (stands_at w) l i)) e (h.sound.fits i)
-
-pub ghosts : (w : Words) (l : List ℕ) → Keeps w l → record { full : length w.table.slots ≡ 32; lined : Lined w l; requested : Requested w l; readers_wait : Placed T2 w l; writers_wait : Placed T5 w l; readers_hold : Placed ReaderH w l; writers_hold : Placed WriterH w l }
-ghosts w l h = record {
-  full = h.full;
-  lined = h.sound.lined;
-  requested = h.sound.requested;
-  readers_wait = λ i e. fit_at h i T2 e;
-  writers_wait = λ i e. fit_at h i T5 e;
-  readers_hold = λ i e. fit_at h i ReaderH e;
-  writers_hold = λ i e. fit_at h i WriterH e;
-}
-
-pub carry : {w v : Words} {l m : List ℕ} → Keeps w l → v ≡ w → m ≡ l → Keeps v m
-carry {w} {v} {l} {m} h e f = subst (λ x. Keeps x m) (sym e) (subst (Keeps w) (sym f) h)
 
 -- one slot's place is written
 module _ (w : Words) (i : ℕ) (x : Standing) (k r c : ℕ) (lt : i < 32) (full : length w.table.slots ≡ 32) where
@@ -176,8 +130,8 @@ step_at_keeps {w} {l} h i T6 lt e m =
 step_at_keeps h i ReaderH lt e m = absurd m
 step_at_keeps h i WriterH lt e m = absurd m
 
-pub step_keeps : {w : Words} {l : List ℕ} → Keeps w l → (i : ℕ) → i < 32 → steps_from (phase_of (stands_at w i)) (Unit {0}) ⊥ → Keeps (stepped w i) (arrives (phase_of (stands_at w i)) i l)
-step_keeps {w} h i lt m = step_at_keeps h i (stands_at w i) lt refl m
+pub keeps_stepped : (w : Words) (l : List ℕ) (i : ℕ) → Keeps w l → i < 32 → steps_from (phases w i) (Unit {0}) ⊥ → Keeps (stepped w i) (arrives (phases w i) i l)
+keeps_stepped w l i h lt m = step_at_keeps h i (stands_at w i) lt refl m
 
 pub idle_is : (x : Standing) → phase_of x ≡ Idle → x ≡ I
 idle_is I e = refl
@@ -194,8 +148,8 @@ call_at_keeps : {w : Words} {l : List ℕ} → Keeps w l → (i : ℕ) (class : 
 call_at_keeps h i Reading lt e = restands h i I T1 lt e (alike I T1 refl refl refl refl) tt
 call_at_keeps h i Writing lt e = restands h i I T4 lt e (alike I T4 refl refl refl refl) tt
 
-pub call_keeps : {w : Words} {l : List ℕ} → Keeps w l → (i : ℕ) (class : Class) → i < 32 → phase_of (stands_at w i) ≡ Idle → Keeps (called w i class) l
-call_keeps {w} {l} h i class lt e =
+pub keeps_called : (w : Words) (l : List ℕ) (i : ℕ) (class : Class) → Keeps w l → i < 32 → phases w i ≡ Idle → Keeps (called w i class) l
+keeps_called w l i class h lt e =
     let z = idle_is (stands_at w i) e in
     subst (λ x. Keeps (written w i (called_standing x class) (kept_by w i) w.requests w.completions) l) (sym z) (call_at_keeps h i class lt z)
 
@@ -220,8 +174,8 @@ finish_at_keeps {w} {l} h i WriterH lt e m =
       sound = writer_quits (alone w i T6 k r c lt h.full) h.sound e (stands_here w i T6 k r c lt h.full);
     }
 
-pub finish_keeps : {w : Words} {l : List ℕ} → Keeps w l → (i : ℕ) → i < 32 → phase_of (stands_at w i) ≡ Holds → Keeps (finished w i) (without i l)
-finish_keeps {w} h i lt m = finish_at_keeps h i (stands_at w i) lt refl m
+pub keeps_finished : (w : Words) (l : List ℕ) (i : ℕ) → Keeps w l → i < 32 → phases w i ≡ Holds → Keeps (finished w i) (without i l)
+keeps_finished w l i h lt m = finish_at_keeps h i (stands_at w i) lt refl m
 
 -- fresh words with nobody in line
 pub all_idle : (n j : ℕ) → (slice_index_or (replicate n unused) j unused).standing ≡ I
@@ -229,8 +183,8 @@ all_idle zero j = refl
 all_idle (suc n) zero = refl
 all_idle (suc n) (suc j) = all_idle n j
 
-pub fresh_keeps : Keeps fresh_words []
-fresh_keeps =
+pub keeps_begun : Keeps fresh_words []
+keeps_begun =
     let a = stands_at fresh_words in
     let idle : (j : ℕ) → a j ≡ I = all_idle 32 in
     let nr : readers_ahead a [] 32 ≡ 0 = let z = among_none (λ x. read_leaves (a x)) 32 (λ x. ap read_leaves (idle x)) in omega arith in
@@ -245,28 +199,5 @@ fresh_keeps =
       };
     }
 
--- a called slot steps, and finds room in line
-pub called_moves : (p : Phase) → p ≡ Called → steps_from p (Unit {0}) ⊥
-called_moves p e = subst (λ q. steps_from q (Unit {0}) ⊥) (sym e) tt
-
-pub room : {w : Words} {l : List ℕ} → Keeps w l → (i : ℕ) → i < 32 → phase_of (stands_at w i) ≡ Called → pushed i l ≡ arrives (phase_of (stands_at w i)) i l
-room {w} {l} h i lt e =
-    let k : Keeps (stepped w i) (l ++ (i ∷ [])) = subst (λ p. Keeps (stepped w i) (arrives p i l)) e (step_keeps h i lt (called_moves _ e)) in
-    let n = line_few 32 k.sound k.sound.off in
-    let p = length_push l i in
-    pushed_room i l (omega arith) ∙ ap (λ y. arrives y i l) (sym e)
-
--- a slot that waits or leaves steps, and the line stays
-pub on_moves : (p : Phase) → Arrived p → steps_from p (Unit {0}) ⊥
-on_moves Idle a = absurd a
-on_moves Called a = absurd a
-on_moves Waits a = tt
-on_moves Holds a = absurd a
-on_moves Leaves a = tt
-
-pub on_line : (p : Phase) (i : ℕ) (l : List ℕ) → Arrived p → l ≡ arrives p i l
-on_line Idle i l a = absurd a
-on_line Called i l a = absurd a
-on_line Waits i l a = refl
-on_line Holds i l a = absurd a
-on_line Leaves i l a = refl
+pub keeps_few : (w : Words) (l : List ℕ) → Keeps w l → length l ≤ 32
+keeps_few w l h = line_few 32 h.sound h.sound.off

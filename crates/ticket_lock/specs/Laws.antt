@@ -1,50 +1,40 @@
--- The ticket lock's moves keep to the meaning of a lock.
-use Rattle.std.specs.Prelude.{◌≡◌, ℕ, ◌+◌, ◌<◌, ◌≤◌, Bool, true, false, cond, ◌⊎◌, List, ◌==◌, ◌≢◌, refl}
+-- The ticket lock's moves mean what a lock's are to mean.
+use Rattle.std.specs.Prelude.{◌≡◌, ℕ, ◌+◌, ◌<◌, ◌≤◌, Bool, true, false, cond, ◌⊎◌, List, length, ◌==◌, ◌≢◌, refl}
 use Rattle.std.proofs.Common.{sym, ap, subst, ◌∙◌, inl, inr, arith}
-use Rattle.std.proofs.lemmas.Bool.{cases_eq}
+use Rattle.lined_lock.specs.Standings.{call_means, step_means, finish_means}
 use Rattle.lock.specs.Meaning.{Meaning, meant, CalledIn, MayHold, Reaches, Stepped, Finished, steps_from}
 use Rattle.lock.specs.declared.words.Class.{Class}
 use Rattle.lock.specs.declared.words.Class.TheVariants.{Reading, Writing}
 use Rattle.lock.specs.declared.words.Phase.TheVariants.{Idle, Called, Waits, Holds, Leaves}
-use Rattle.ticket_lock.specs.Lock.{phases, classes, bars, Opens, Calls, Steps, Finishes}
+use Rattle.ticket_lock.specs.Invariant.{Keeps}
+use Rattle.ticket_lock.specs.Lock.{phases, classes, bars}
 use Rattle.ticket_lock.specs.Order.{times, before, reads, writes, readers_ahead, writers_ahead}
-use Rattle.ticket_lock.specs.declared.ticket.TicketLock.{TicketLock}
 use Rattle.ticket_lock.specs.Counts.{no, one_first}
-use Rattle.ticket_lock.specs.Kept.{Keeps, sound_of, fit_at, idle_is, all_idle, stands_here, stands_there, kept_there, reader_free, writer_free}
+use Rattle.ticket_lock.specs.Kept.{fit_at, idle_is, all_idle, stands_here, stands_there, kept_there, reader_free, writer_free}
 use Rattle.ticket_words.specs.Counting.{lower}
 use Rattle.ticket_words.specs.Places.{phase_of, class_of}
-use Rattle.ticket_words.specs.Steps.{stands_at, kept_by, next_standing, called_standing, finished_standing, written}
+use Rattle.ticket_words.specs.Steps.{stands_at, kept_by, next_standing, called_standing, finished_standing, written, called, stepped, finished, fresh_words}
 use Rattle.ticket_words.specs.declared.standing.Standing.{Standing}
 use Rattle.ticket_words.specs.declared.standing.Standing.TheVariants.{I, T1, T2, T3, T4, T5, T6, ReaderH, WriterH}
 use Rattle.ticket_words.specs.declared.words.Words.{Words}
 
-abbrev pub mean : TicketLock → Meaning
+abbrev pub mean : Words → Meaning
 mean = meant phases classes bars
 
 -- where slot i, and where each other slot, stands after a move
-pub record Becomes (s : TicketLock) (i : ℕ) (x : Standing) (t : TicketLock) : Type 0 where
-  pub here : stands_at t.words i ≡ x
-  pub others : (j : ℕ) → (j ≢ i) → stands_at t.words j ≡ stands_at s.words j
-  pub keeps : (j : ℕ) → (j ≢ i) → kept_by t.words j ≡ kept_by s.words j
+pub record Becomes (w : Words) (i : ℕ) (x : Standing) (v : Words) : Type 0 where
+  pub here : stands_at v i ≡ x
+  pub others : (j : ℕ) → (j ≢ i) → stands_at v j ≡ stands_at w j
+  pub keeps : (j : ℕ) → (j ≢ i) → kept_by v j ≡ kept_by w j
 
-becomes : (s : TicketLock) (i : ℕ) (x : Standing) (k r c : ℕ) (t : TicketLock) → i < 32 → t.words ≡ written s.words i x k r c → Becomes s i x t
-becomes s i x k r c t lt e = record {
-  here = ap (λ w. stands_at w i) e ∙ stands_here s.words i x k r c lt s.full;
-  others = λ j n. ap (λ w. stands_at w j) e ∙ stands_there s.words i x k r c lt s.full j n;
-  keeps = λ j n. ap (λ w. kept_by w j) e ∙ kept_there s.words i x k r c lt s.full j n;
-}
+pub becomes : (w : Words) (i : ℕ) (x : Standing) (k r c : ℕ) → i < 32 → length w.table.slots ≡ 32 → Becomes w i x (written w i x k r c)
+becomes w i x k r c lt full = record { here = stands_here w i x k r c lt full; others = stands_there w i x k r c lt full; keeps = kept_there w i x k r c lt full }
 
-pub calls_becomes : (s : TicketLock) (i : ℕ) (c : Class) (t : TicketLock) → i < 32 → Calls s i c t → Becomes s i (called_standing I c) t
-calls_becomes s i c t lt m = subst (λ x. Becomes s i (called_standing x c) t) (idle_is _ m.idle) (becomes s i _ _ _ _ t lt m.words)
+pub called_becomes : (w : Words) (i : ℕ) (c : Class) → length w.table.slots ≡ 32 → i < 32 → phases w i ≡ Idle → Becomes w i (called_standing I c) (called w i c)
+called_becomes w i c full lt e = subst (λ x. Becomes w i (called_standing x c) (called w i c)) (idle_is _ e) (becomes w i _ _ _ _ lt full)
 
-pub steps_becomes : (s : TicketLock) (i : ℕ) (t : TicketLock) → i < 32 → Steps s i t → Becomes s i (next_standing (stands_at s.words i) (kept_by s.words i) s.words.completions) t
-steps_becomes s i t lt m = becomes s i _ _ _ _ t lt m.words
-
-pub finishes_becomes : (s : TicketLock) (i : ℕ) (t : TicketLock) → i < 32 → Finishes s i t → Becomes s i (finished_standing (stands_at s.words i)) t
-finishes_becomes s i t lt m = becomes s i _ _ _ _ t lt m.words
-
-pub opened : (n : ℕ) (s : TicketLock) → Opens n s → (j : ℕ) → phases s j ≡ Idle
-opened n s o j = ap (λ w. phase_of (stands_at w j)) o.words ∙ ap phase_of (all_idle 32 j)
+pub means_begun : (i : ℕ) → phases fresh_words i ≡ Idle
+means_begun i = ap phase_of (all_idle 32 i)
 
 called_phase : (c : Class) → phase_of (called_standing I c) ≡ Called
 called_phase Reading = refl
@@ -54,15 +44,10 @@ called_class : (c : Class) → class_of (called_standing I c) ≡ c
 called_class Reading = refl
 called_class Writing = refl
 
-pub called_in : (s : TicketLock) (i : ℕ) (c : Class) (t : TicketLock) → i < 32 → Calls s i c t → CalledIn (mean s) i c (mean t)
-called_in s i c t lt m =
-    let b = calls_becomes s i c t lt m in
-    record {
-      idle = m.idle;
-      free = λ w. refl;
-      phase = record { here = ap phase_of b.here ∙ called_phase c; others = λ j n. ap phase_of (b.others j n) };
-      class = record { here = ap class_of b.here ∙ called_class c; others = λ j n. ap class_of (b.others j n) };
-    }
+pub means_called : (w : Words) (l : List ℕ) (i : ℕ) (c : Class) → Keeps w l → i < 32 → phases w i ≡ Idle → (c ≡ Writing → bars w i ≡ false) → CalledIn (mean w) i c (mean (called w i c))
+means_called w l i c h lt e f =
+    let b = called_becomes w i c h.full lt e in
+    call_means phase_of class_of (stands_at w) (stands_at (called w i c)) (bars w) (bars (called w i c)) i c e f b.others (ap phase_of b.here ∙ called_phase c) (ap class_of b.here ∙ called_class c)
 
 -- who holds
 pub holds_is : (x : Standing) → phase_of x ≡ Holds → (x ≡ ReaderH) ⊎ (x ≡ WriterH)
@@ -105,36 +90,32 @@ module _ {w : Words} {l : List ℕ} (h : Keeps w l) where
       let q = f.0 in
       clash writes writes i j T5 WriterH e d n (omega arith) (omega arith) (omega arith) (omega arith) (omega arith) (omega arith)
 
-may_at : (s : TicketLock) (i : ℕ) (x : Standing) → stands_at s.words i ≡ x → MayHold (class_of x) (mean s) i → MayHold (classes s i) (mean s) i
-may_at s i x e m = subst (λ y. MayHold (class_of y) (mean s) i) (sym e) m
+may_at : (w : Words) (i : ℕ) (x : Standing) → stands_at w i ≡ x → MayHold (class_of x) (mean w) i → MayHold (classes w i) (mean w) i
+may_at w i x e m = subst (λ y. MayHold (class_of y) (mean w) i) (sym e) m
 
 writing_holds : (x : Standing) → class_of x ≡ Writing → (x ≡ ReaderH) ⊎ (x ≡ WriterH) → x ≡ WriterH
 writing_holds x k (inl e) = no (let u = ap class_of e in cc)
 writing_holds x k (inr e) = e
 
 -- a test, and what it lets in
-reader_reaches : (s : TicketLock) (i : ℕ) → stands_at s.words i ≡ T2 → (b : Bool) → (lower s.words.completions == kept_by s.words i) ≡ b → (phase_of (cond b ReaderH T2) ≡ Waits) ⊎ ((phase_of (cond b ReaderH T2) ≡ Holds) × MayHold (classes s i) (mean s) i)
-reader_reaches s i e true z =
-    let h = sound_of s in
-    inr (refl, may_at s i T2 e (λ j p k. no_writer_holds h i j e (reader_free h i e z) (writing_holds _ k (holds_is _ p))))
-reader_reaches s i e false z = inl refl
+reader_reaches : {w : Words} {l : List ℕ} → Keeps w l → (i : ℕ) → stands_at w i ≡ T2 → (b : Bool) → (lower w.completions == kept_by w i) ≡ b → (phase_of (cond b ReaderH T2) ≡ Waits) ⊎ ((phase_of (cond b ReaderH T2) ≡ Holds) × MayHold (classes w i) (mean w) i)
+reader_reaches {w} h i e true z = inr (refl, may_at w i T2 e (λ j p k. no_writer_holds h i j e (reader_free h i e z) (writing_holds _ k (holds_is _ p))))
+reader_reaches h i e false z = inl refl
 
-writer_reaches : (s : TicketLock) (i : ℕ) → stands_at s.words i ≡ T5 → (b : Bool) → (s.words.completions == kept_by s.words i) ≡ b → (phase_of (cond b WriterH T5) ≡ Waits) ⊎ ((phase_of (cond b WriterH T5) ≡ Holds) × MayHold (classes s i) (mean s) i)
-writer_reaches s i e true z =
-    let h = sound_of s in
-    inr (refl, may_at s i T5 e (λ j n p. nobody_holds h i j e (writer_free h i e z) n (holds_is _ p)))
-writer_reaches s i e false z = inl refl
+writer_reaches : {w : Words} {l : List ℕ} → Keeps w l → (i : ℕ) → stands_at w i ≡ T5 → (b : Bool) → (w.completions == kept_by w i) ≡ b → (phase_of (cond b WriterH T5) ≡ Waits) ⊎ ((phase_of (cond b WriterH T5) ≡ Holds) × MayHold (classes w i) (mean w) i)
+writer_reaches {w} h i e true z = inr (refl, may_at w i T5 e (λ j n p. nobody_holds h i j e (writer_free h i e z) n (holds_is _ p)))
+writer_reaches h i e false z = inl refl
 
-reaches : (s : TicketLock) (i : ℕ) (x : Standing) → stands_at s.words i ≡ x → steps_from (phase_of x) (Unit {0}) ⊥ → Reaches (mean s) i (phase_of x) (phase_of (next_standing x (kept_by s.words i) s.words.completions))
-reaches s i I e m = absurd m
-reaches s i T1 e m = inl refl
-reaches s i T2 e m = reader_reaches s i e _ refl
-reaches s i T3 e m = inr refl
-reaches s i T4 e m = inl refl
-reaches s i T5 e m = writer_reaches s i e _ refl
-reaches s i T6 e m = inr refl
-reaches s i ReaderH e m = absurd m
-reaches s i WriterH e m = absurd m
+reaches : {w : Words} {l : List ℕ} → Keeps w l → (i : ℕ) (x : Standing) → stands_at w i ≡ x → steps_from (phase_of x) (Unit {0}) ⊥ → Reaches (mean w) i (phase_of x) (phase_of (next_standing x (kept_by w i) w.completions))
+reaches h i I e m = absurd m
+reaches h i T1 e m = inl refl
+reaches h i T2 e m = reader_reaches h i e _ refl
+reaches h i T3 e m = inr refl
+reaches h i T4 e m = inl refl
+reaches h i T5 e m = writer_reaches h i e _ refl
+reaches h i T6 e m = inr refl
+reaches h i ReaderH e m = absurd m
+reaches h i WriterH e m = absurd m
 
 -- a slot keeps its class while it is not idle
 class_next : (x : Standing) (k c : ℕ) → (phase_of (next_standing x k c) ≢ Idle) → class_of (next_standing x k c) ≡ class_of x
@@ -148,32 +129,20 @@ class_next T6 k c n = absurd (n refl)
 class_next ReaderH k c n = refl
 class_next WriterH k c n = refl
 
--- what the class does, by what it does at slot i
-keeps_class : (s : TicketLock) (i : ℕ) (x : Standing) (t : TicketLock) → Becomes s i x t → ((phase_of x ≢ Idle) → class_of x ≡ class_of (stands_at s.words i)) → (j : ℕ) → (phases t j ≢ Idle) → classes t j ≡ classes s j
-keeps_class s i x t b f j n = elim (cases_eq j i) [
-  | inl e ↦ ap (classes t) e ∙ ap class_of b.here ∙ f (λ z. n (ap (phases t) e ∙ ap phase_of b.here ∙ z)) ∙ sym (ap (classes s) e)
-  | inr u ↦ ap class_of (b.others j u)
-]
-
-pub stepped_on : (s : TicketLock) (i : ℕ) (t : TicketLock) → i < 32 → Steps s i t → Stepped (mean s) i (mean t)
-stepped_on s i t lt m =
-    let b = steps_becomes s i t lt m in
-    record {
-      reaches = subst (Reaches (mean s) i (phases s i)) (sym (ap phase_of b.here)) (reaches s i (stands_at s.words i) refl m.moves);
-      others = record { here = refl; others = λ j n. ap phase_of (b.others j n) };
-      class = keeps_class s i _ t b (class_next (stands_at s.words i) _ _);
-    }
+pub means_stepped : (w : Words) (l : List ℕ) (i : ℕ) → Keeps w l → i < 32 → steps_from (phases w i) (Unit {0}) ⊥ → Stepped (mean w) i (mean (stepped w i))
+means_stepped w l i h lt m =
+    let b : Becomes w i (next_standing (stands_at w i) (kept_by w i) w.completions) (stepped w i) = becomes w i _ _ _ _ lt h.full in
+    step_means phase_of class_of (stands_at w) (stands_at (stepped w i)) (bars w) (bars (stepped w i)) i
+    (subst (Reaches (mean w) i (phases w i)) (sym (ap phase_of b.here)) (reaches h i (stands_at w i) refl m))
+    b.others
+    (subst (λ x. (phase_of x ≢ Idle) → class_of x ≡ classes w i) (sym b.here) (class_next (stands_at w i) _ _))
 
 finished_leaves : (x : Standing) → (x ≡ ReaderH) ⊎ (x ≡ WriterH) → (phase_of (finished_standing x) ≡ Leaves) × (class_of (finished_standing x) ≡ class_of x)
 finished_leaves x (inl e) = (ap (λ y. phase_of (finished_standing y)) e, ap (λ y. class_of (finished_standing y)) e ∙ sym (ap class_of e))
 finished_leaves x (inr e) = (ap (λ y. phase_of (finished_standing y)) e, ap (λ y. class_of (finished_standing y)) e ∙ sym (ap class_of e))
 
-pub finished_on : (s : TicketLock) (i : ℕ) (t : TicketLock) → i < 32 → Finishes s i t → Finished (mean s) i (mean t)
-finished_on s i t lt m =
-    let b = finishes_becomes s i t lt m in
-    let l = finished_leaves (stands_at s.words i) (holds_is _ m.holds) in
-    record {
-      holds = m.holds;
-      phase = record { here = ap phase_of b.here ∙ l.0; others = λ j n. ap phase_of (b.others j n) };
-      class = keeps_class s i _ t b (λ n. l.1);
-    }
+pub means_finished : (w : Words) (l : List ℕ) (i : ℕ) → Keeps w l → i < 32 → phases w i ≡ Holds → Finished (mean w) i (mean (finished w i))
+means_finished w l i h lt e =
+    let b : Becomes w i (finished_standing (stands_at w i)) (finished w i) = becomes w i _ _ _ _ lt h.full in
+    let f = finished_leaves (stands_at w i) (holds_is _ e) in
+    finish_means phase_of class_of (stands_at w) (stands_at (finished w i)) (bars w) (bars (finished w i)) i e b.others (ap phase_of b.here ∙ f.0) (ap class_of b.here ∙ f.1)

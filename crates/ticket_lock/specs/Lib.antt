@@ -1,8 +1,12 @@
 pub mod Order
 pub mod Invariant
 pub mod Lock
-pub mod Laws
 pub mod Counts
-pub mod Kept
 pub mod Sound
 pub mod Moves
+pub mod Kept
+pub mod Laws
+pub mod Turns
+pub mod Ticket
+pub mod Paces
+pub mod Rounds

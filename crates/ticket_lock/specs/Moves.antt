@@ -3,10 +3,10 @@ use Rattle.std.specs.Prelude.{◌≡◌, ℕ, suc, ◌+◌, ◌≤◌, List, [],
 use Rattle.std.proofs.Common.{sym, ap, subst, ◌∙◌, inl, inr, arith}
 use Rattle.std.proofs.lemmas.Bool.{cases_eq}
 use Rattle.lock.specs.Line.{without}
-use Rattle.ticket_lock.specs.Invariant.{Ahead, Fits}
+use Rattle.ticket_lock.specs.Invariant.{Ahead, Fits, Sound}
 use Rattle.ticket_lock.specs.Order.{times, before, among, adv, reads, writes, read_leaves, write_leaves, readers_ahead, writers_ahead}
 use Rattle.ticket_lock.specs.Counts.{times_end_own, times_end_other, before_end_in, before_end_own, before_end_out, before_agree, times_without_own, times_without_other, only, before_without, only_none, only_passed, before_sum, among_moved}
-use Rattle.ticket_lock.specs.Sound.{Sound, once, follows_same, follows_count, Alone, keeps_sound}
+use Rattle.ticket_lock.specs.Sound.{once, follows_same, follows_count, Alone, keeps_sound}
 use Rattle.ticket_words.specs.Counting.{lower, upper, counted}
 use Rattle.ticket_words.specs.declared.standing.Standing.{Standing}
 use Rattle.ticket_words.specs.declared.standing.Standing.TheVariants.{I, T1, T2, T3, T4, T5, T6, ReaderH, WriterH}

@@ -2,19 +2,30 @@
 -- what they have kept (k, g), the requests (r, q), the completions (c, d) and the line (l, m).
 use Rattle.std.specs.Prelude.{◌≡◌, ℕ, zero, suc, ◌+◌, ◌<◌, ◌≤◌, List, length, ◌≢◌, refl}
 use Rattle.std.proofs.Common.{sym, ap, subst, ◌∙◌, inl, inr, arith}
+use Rattle.std.proofs.Props.{props}
 use Rattle.std.proofs.lemmas.Bool.{cases_eq, cases_lt}
-use Rattle.ticket_lock.specs.Invariant.{Ahead, Fits}
+use Rattle.ticket_lock.specs.Invariant.{Ahead, Fits, Sound, Keeps}
 use Rattle.ticket_lock.specs.Order.{times, before, among, adv, reads, writes, read_leaves, write_leaves, readers_ahead, writers_ahead}
 use Rattle.ticket_lock.specs.Counts.{before_le, among_le, few, adv_none}
 use Rattle.ticket_words.specs.Counting.{lower, upper, counted}
 use Rattle.ticket_words.specs.declared.standing.Standing.{Standing}
 use Rattle.ticket_words.specs.declared.standing.Standing.TheVariants.{I, T1, T2, T3, T4, T5, T6, ReaderH, WriterH}
+use Rattle.ticket_words.specs.declared.words.Words.{Words}
 
-pub record Sound (a : ℕ → Standing) (k : ℕ → ℕ) (r c : ℕ) (l : List ℕ) : Type 0 where
-  pub off : (i : ℕ) → 32 ≤ i → a i ≡ I
-  pub lined : (i : ℕ) → times i l ≡ reads (a i) + writes (a i)
-  pub requested : Ahead r c (readers_ahead a l 32) (writers_ahead a l 32)
-  pub fits : (i : ℕ) → Fits (a i) (k i) c (readers_ahead a l i) (writers_ahead a l i)
+-- the invariant has one proof at most
+fits_once : (x : Standing) (k c r w : ℕ) → IsProp (Fits x k c r w)
+fits_once I k c r w = hlevel props
+fits_once T1 k c r w = hlevel props
+fits_once T2 k c r w = hlevel props
+fits_once T3 k c r w = hlevel props
+fits_once T4 k c r w = hlevel props
+fits_once T5 k c r w = hlevel props
+fits_once T6 k c r w = hlevel props
+fits_once ReaderH k c r w = hlevel props
+fits_once WriterH k c r w = hlevel props
+
+pub keeps_once : (w : Words) (l : List ℕ) → IsProp (Keeps w l)
+keeps_once w l = hlevel (props, fits_once)
 
 -- nobody both reads and writes, and who leaves does not stand in line
 pub once : (x : Standing) → reads x + writes x + read_leaves x + write_leaves x ≤ 1

@@ -1,33 +1,95 @@
-// The words beside the line. The invariant ties what is counted in the words to who stands in line.
-ghost use Rattle.std.specs.Prelude.{◌≡◌, length};
-ghost use Rattle.line_table.specs.Lines.{in_line};
-ghost use Rattle.ticket_lock.specs.Invariant.{Lined, Requested, Placed};
-ghost use Rattle.ticket_words.specs.declared.standing.Standing.TheVariants.{T2, T5, ReaderH, WriterH};
+// The ticket lock's words, beside a line.
+ghost use Rattle.ticket_lock.specs.Invariant.{Keeps};
+ghost use Rattle.ticket_lock.specs.Kept as kept;
+ghost use Rattle.ticket_lock.specs.Laws as laws;
+ghost use Rattle.ticket_lock.specs.Lock.{phases, classes, bars, labels};
+ghost use Rattle.ticket_lock.specs.Sound as sound;
+ghost use Rattle.ticket_lock.specs.Turns as turns;
+ghost use Rattle.ticket_words.specs.Steps.{fresh_words, called, stepped, finished};
 
-use line_table::Line;
-use ticket_words::Words;
+use lined_lock::{LinedLock, Procedures};
+use lock::{Class, Phase};
+use slots::Slot;
+use ticket_words::{Label, Words};
 
-pub mod fair;
-pub mod ordered;
-pub mod steps;
+pub type TicketLock = LinedLock<Ticket, Words>;
 
+// What the ticket lock does to its words, and what ties them to the line.
 #[derive(Clone, Copy)]
-pub struct TicketLock {
-    words: Words,
-    line: Line,
-    ghost full: { length words.table.slots ≡ 32 },
-    ghost lined: { Lined words (in_line line) },
-    ghost requested: { Requested words (in_line line) },
-    ghost readers_wait: { Placed T2 words (in_line line) },
-    ghost writers_wait: { Placed T5 words (in_line line) },
-    ghost readers_hold: { Placed ReaderH words (in_line line) },
-    ghost writers_hold: { Placed WriterH words (in_line line) },
-}
+pub struct Ticket;
 
-impl TicketLock {
-    pub fn words(&self) -> Words
-        ensures { result ≡ self.now.words }
-    {
-        self.words
+impl Procedures<Words> for Ticket {
+    type Label = Label;
+
+    ghost phases = { phases };
+
+    ghost classes = { classes };
+
+    ghost bars = { bars };
+
+    ghost labels = { labels };
+
+    ghost begun = { fresh_words };
+
+    ghost called = { called };
+
+    ghost stepped = { stepped };
+
+    ghost finished = { finished };
+
+    ghost keeps = { Keeps };
+
+    ghost keeps_once = { sound.keeps_once };
+
+    ghost keeps_begun = { kept.keeps_begun };
+
+    ghost keeps_few = { kept.keeps_few };
+
+    ghost keeps_called = { λ w l i c h lt e f. kept.keeps_called w l i c h lt e };
+
+    ghost keeps_stepped = { kept.keeps_stepped };
+
+    ghost keeps_finished = { kept.keeps_finished };
+
+    ghost means_begun = { laws.means_begun };
+
+    ghost means_called = { laws.means_called };
+
+    ghost means_stepped = { laws.means_stepped };
+
+    ghost means_finished = { laws.means_finished };
+
+    ghost in_turn = { turns.in_turn };
+
+    fn begin() -> Words {
+        Words::fresh()
+    }
+
+    fn phase(words: &Words, slot: Slot) -> Phase {
+        words.standing(slot).phase()
+    }
+
+    fn class(words: &Words, slot: Slot) -> Class {
+        words.standing(slot).class()
+    }
+
+    fn label(words: &Words, slot: Slot) -> Label {
+        words.standing(slot).label()
+    }
+
+    fn is_barred(_words: &Words, _slot: Slot) -> bool {
+        false
+    }
+
+    fn call(words: &mut Words, slot: Slot, class: Class) {
+        words.call(slot, class);
+    }
+
+    fn step(words: &mut Words, slot: Slot) {
+        words.step(slot);
+    }
+
+    fn finish(words: &mut Words, slot: Slot) {
+        words.finish(slot);
     }
 }

@@ -1,3 +1,0 @@
-mod Turns
-mod Paces
-mod Rounds
