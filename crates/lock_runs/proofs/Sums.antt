@@ -2,7 +2,8 @@
 use Rattle.std.proofs.Common.{◌≡◌, ℕ, suc, ◌+◌, sym, refl, ap, ◌∙◌, add-one}
 use Rattle.ticket_words.specs.Steps.{kept_by}
 use Rattle.ticket_words.specs.declared.words.Words.{Words}
-use Rattle.lock_runs.specs.Ticket.{mixed, mixed_to}
+use Rattle.lock_runs.specs.Mix.{mixed}
+use Rattle.lock_runs.specs.Ticket.{mixed_to}
 
 pub sum_begins : (w : Words) (r c m s : ℕ) → r ≡ w.requests → c ≡ w.completions → m ≡ mixed 0 r → s ≡ mixed m c → s ≡ mixed_to w 0
 unfolding mixed_to

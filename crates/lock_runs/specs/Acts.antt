@@ -5,8 +5,6 @@ use Rattle.refusal.specs.declared.reason.Refusal.{Refusal}
 use Rattle.lock.specs.Meaning.{call_answer, CallsOrRefuses, steps_from, finishes_from}
 use Rattle.lock.specs.Phases.{phase_text}
 use Rattle.lock.specs.declared.meaning.Lock as lock
-use Rattle.lock.specs.declared.words.Phase.{Phase}
-use Rattle.lock.specs.declared.words.Phase.TheVariants.{Idle, Called, Waits, Holds, Leaves}
 use Rattle.lock_runs.specs.declared.act.Act.{Act}
 use Rattle.lock_runs.specs.declared.act.Act.TheVariants.{Call, Step, Finish}
 use Rattle.lock_runs.specs.declared.act.Answer.{Answer}

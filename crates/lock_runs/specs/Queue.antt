@@ -4,7 +4,6 @@ use Rattle.lock.specs.declared.words.Class.{Class}
 use Rattle.lock.specs.declared.words.Class.TheVariants.{Reading, Writing}
 use Rattle.lock_runs.specs.Mix.{mixed}
 use Rattle.queue_lock.specs.Lock.{labels}
-use Rattle.queue_lock.specs.declared.queue.QueueLock.{QueueLock}
 use Rattle.queue_words.specs.Standings.{label_text}
 use Rattle.queue_words.specs.Steps.{slot}
 use Rattle.queue_words.specs.declared.record.Record.{Record}
@@ -39,8 +38,8 @@ unfoldable pub mixed_to : Words → ℕ → ℕ
 mixed_to w zero = mixed (mixed (mixed 0 (slot_number w.tail)) (slot_number w.next_writer)) w.reader_count
 mixed_to w (suc n) = record_mixed (mixed_to w n) (slot w n)
 
-abbrev pub sums : QueueLock → ℕ
-sums s = mixed_to s.words 32
+abbrev pub sums : Words → ℕ
+sums w = mixed_to w 32
 
-abbrev pub shows : QueueLock → ℕ → List ℕ
-shows s i = label_text (labels s i) ++ (codes " " ++ (decimal (slot_number s.words.tail) ++ (codes " " ++ (decimal (slot_number s.words.next_writer) ++ (codes " " ++ (decimal s.words.reader_count ++ (codes " " ++ decimal (sums s))))))))
+abbrev pub shows : Words → ℕ → List ℕ
+shows w i = label_text (labels w i) ++ (codes " " ++ (decimal (slot_number w.tail) ++ (codes " " ++ (decimal (slot_number w.next_writer) ++ (codes " " ++ (decimal w.reader_count ++ (codes " " ++ decimal (sums w))))))))

@@ -41,9 +41,9 @@ fn mix_shared(words: &Words) -> u32
 }
 
 impl Shown for QueueLock {
-    ghost shows = { shows };
+    ghost shows = { λ s. shows s.words };
 
-    ghost sums = { sums };
+    ghost sums = { λ s. sums s.words };
 
     fn show(&self, heap: Global, slot: Slot) -> Result<String, AllocError> {
         let words = self.words();

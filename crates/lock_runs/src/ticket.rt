@@ -9,9 +9,9 @@ use std::alloc::{AllocError, Global};
 use ticket_lock::TicketLock;
 
 impl Shown for TicketLock {
-    ghost shows = { shows };
+    ghost shows = { λ s. shows s.words };
 
-    ghost sums = { sums };
+    ghost sums = { λ s. sums s.words };
 
     fn show(&self, heap: Global, slot: Slot) -> Result<String, AllocError> {
         let words = self.words();

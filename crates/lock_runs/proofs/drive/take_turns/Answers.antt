@@ -1,4 +1,4 @@
-use Rattle.std.proofs.Common.{ℕ, ◌+◌, ◌*◌, sym, subst}
+use Rattle.std.proofs.Common.{subst}
 use Rattle.lock_runs.specs.Acts.{Acted}
 use Rattle.lock_runs.specs.Drive.{next_act}
 use Rattle.lock_runs.proofs.Turns.{turned}
