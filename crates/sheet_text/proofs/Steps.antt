@@ -1,9 +1,10 @@
 -- One step of a cursor along its line.
-use Rattle.std.proofs.Common.{◌≡◌, ℕ, ◌+◌, ◌-◌, ◌≤◌, Bool, true, leb, List, [], ◌++◌, length, take, drop, sym, ap, ◌∙◌, subst, append_assoc, arith, length-append, length-drop, take-append-drop, le-leb, leb-true}
+use Rattle.std.proofs.Common.{◌≡◌, ℕ, ◌+◌, ◌-◌, ◌≤◌, Bool, true, leb, List, [], ◌++◌, length, take, drop, sym, ap, ◌∙◌, subst, append_assoc, arith, length-append, length-drop, take-append-drop, le-leb, leb-true, false, Option, Some, None, MatchOption, Decides, ◌∷◌}
+use Rattle.std.proofs.lemmas.Bool.{true≢false}
 use Rattle.std.proofs.lemmas.List.{drop_all, drop_at, take_at, length-take-le}
 use Rattle.sheet_text.specs.declared.cursor.Cursor.{Cursor}
 use Rattle.sheet_text.specs.declared.token.Token.{Token}
-use Rattle.sheet_text.specs.Parts.{Part, written, is_opening, gap, onward}
+use Rattle.sheet_text.specs.Parts.{Part, closing, ending, written, is_opening, gap, onward}
 use Rattle.sheet_text.specs.Cuts.{part, place, bytes, Cut, NoCut}
 use Rattle.sheet_text.specs.Steps.{Left, Next, NotNext, Stands}
 use Rattle.sheet_text.proofs.Cuts.{first_in, same_next, onward_ends}
@@ -76,8 +77,20 @@ pub other_part : (c d : Cursor) (t : Token) (p : Part) → Next c (part t) d →
 other_part c d t p next other ps left = other (sym (next.from p ps left).0)
 
 -- nothing is left exactly where the cursor is at the line's end
-pub all_read : (c : Cursor) → leb (length c.line.now) c.at ≡ true → Left c []
+all_read : (c : Cursor) → leb (length c.line.now) c.at ≡ true → Left c []
 all_read c e = record { here = drop_all c.at c.line.now (leb-true _ _ e); goods = tt }
 
-pub nothing_left : (c : Cursor) → Left c [] → leb (length c.line.now) c.at ≡ true
+nothing_left : (c : Cursor) → Left c [] → leb (length c.line.now) c.at ≡ true
 nothing_left c left = le-leb _ _ (omega (arith, ap length left.here, length-drop c.at c.line.now))
+
+-- what is the next part, where the answer says it
+abbrev pub Past : Cursor → Part → Option Cursor → Type 0
+Past c p r = MatchOption r (NotNext c p) (λ d. Next c p d)
+
+-- for `closes`: past the bracket and the line's end, that nothing is left is told by the cursor's place
+pub closes_where : (c : Cursor) (r s : Option Cursor) (b : Bool) → Past c closing r → MatchOption r (s ≡ None) (λ d. Past d ending s) → MatchOption s (b ≡ false) (λ e. b ≡ leb (length e.line.now) e.at) → Decides b (Left c (closing ∷ ending ∷ []))
+closes_where c None None b first second last = ((λ e. absurd (true≢false (sym e ∙ last))), (λ left. absurd (first _ left)))
+closes_where c None (Some e) b first second last = absurd (let z : ◌≡◌ {A = ℕ} 0 1 = cc in omega arith)
+closes_where c (Some d) None b first second last = ((λ e. absurd (true≢false (sym e ∙ last))), (λ left. absurd (second _ (first.from _ _ left).1)))
+closes_where c (Some d) (Some e) b first second last =
+    ((λ is. first.to _ (second.to _ (all_read _ (sym last ∙ is)))), (λ left. last ∙ nothing_left _ (second.from _ _ (first.from _ _ left).1).1))

@@ -3,10 +3,12 @@ use Rattle.std.specs.Prelude.{◌≡◌, ℕ, List, ◌∷◌, length, take, dro
 use Rattle.std.specs.List.{AllByRecursion}
 use Rattle.sheet_text.specs.declared.cursor.Cursor.{Cursor}
 use Rattle.sheet_text.specs.declared.form.Form.{Form}
+use Rattle.sheet_text.specs.declared.token.Mark.{Mark}
+use Rattle.sheet_text.specs.declared.token.Mark.TheVariants.{Open, Close, End}
 use Rattle.sheet_text.specs.declared.token.Token.{Token}
 use Rattle.sheet_text.specs.Cuts.{Good, part, place, bytes}
 use Rattle.sheet_text.specs.Forms.{name, args, parts, Fits}
-use Rattle.sheet_text.specs.Parts.{Part, written, onward}
+use Rattle.sheet_text.specs.Parts.{Part, opening, closing, ending, written, onward}
 
 -- the bytes that are left at c are those of ps
 pub record Left (c : Cursor) (ps : List Part) : Type 0 where
@@ -18,6 +20,12 @@ pub record Next (c : Cursor) (p : Part) (d : Cursor) : Type 0 where
   pub good : Good p
   pub to : (ps : List Part) → Left d ps → Left c (p ∷ ps)
   pub from : (q : Part) (ps : List Part) → Left c (q ∷ ps) → (q ≡ p) × Left d ps
+
+-- the part that a mark is
+abbrev pub marked : Mark → Part
+marked Open = opening
+marked Close = closing
+marked End = ending
 
 -- p is not the next part at c
 abbrev pub NotNext : Cursor → Part → Type 0

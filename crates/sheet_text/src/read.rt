@@ -7,6 +7,7 @@ ghost use Rattle.sheet_text.specs.Steps.{ArgsOf, FormAt};
 
 use super::cursor::Cursor;
 use super::form::{Form, KindName, LockName};
+use super::token::Mark;
 use refusal::Refusal;
 
 fn same_text(a: &[u8], b: &[u8]) -> bool
@@ -78,7 +79,7 @@ fn args_of(w: &[u8], from: Cursor) -> Option<Form>
 fn form(from: Cursor) -> Option<Form>
     ensures { FormAt from.entry result }
 {
-    let rest = from.open()?;
+    let rest = from.past(Mark::Open)?;
     let (w, rest) = rest.word()?;
     args_of(w, rest)
 }
