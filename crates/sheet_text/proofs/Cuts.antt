@@ -1,13 +1,12 @@
 -- The part at the front of some bytes is determined.
-use Rattle.std.proofs.Common.{◌≡◌, ℕ, zero, suc, ◌+◌, ◌-◌, ◌^◌, ◌<◌, ◌≤◌, Bool, true, false, cond, ◌⊎◌, List, [], ◌∷◌, ◌++◌, length, get_or, take, drop, decimal, sym, refl, ap, ◌∙◌, subst, inl, inr, ⊎_elim, add-zero, arith, take-append-drop, Bor, ◌≢◌, Option, Some, None, MatchOption, not}
+use Rattle.std.proofs.Common.{◌≡◌, ℕ, ◌+◌, ◌-◌, ◌^◌, ◌<◌, ◌≤◌, Bool, true, false, cond, ◌⊎◌, List, [], ◌∷◌, ◌++◌, length, get_or, take, drop, decimal, sym, refl, ap, ◌∙◌, subst, inl, inr, ⊎_elim, add-zero, arith, Bor, ◌≢◌, Option, Some, None, MatchOption, not}
 use Rattle.std.specs.Bool.{then_some}
-use Rattle.std.proofs.lemmas.List.{take_rest, length-take-le, get_or_past}
+use Rattle.std.proofs.lemmas.List.{take_rest}
 use Rattle.std.proofs.lemmas.Fmt.{decimal_nonempty, digits_decimal, decimal_injective}
-use Rattle.std.proofs.lemmas.Bool.{true≢false, false≢true}
+use Rattle.std.proofs.lemmas.Bool.{true≢false}
 use Rattle.std.specs.Int.{IsInRange}
 use Rattle.std.specs.List.{AllByRecursion}
 use Rattle.sheet_text.specs.declared.token.Token.{Token}
-use Rattle.sheet_text.specs.declared.token.Token.TheVariants.{Open, Close, Word, Number, End}
 use Rattle.sheet_text.specs.Parts.{Part, opening, closing, word, numeral, ending, written, is_opening, is_spaced, gap, onward}
 use Rattle.sheet_text.specs.Cuts.{Good, part, Stops, Ends, Cut, NoCut}
 use Rattle.sheet_text.proofs.Runs.{run_unique, own}

@@ -26,11 +26,6 @@ split_cut line at tight t rest inside cut =
       sym (take-append-drop at line) ∙ ap (λ (l : List ℕ). take at line ++ l) cut.whole ∙ sym (append_assoc (take at line) g (written (part t) ++ rest)),
     )
 
-pub rest_fits : (line s : List ℕ) (at : ℕ) (tight : Bool) (t : Token) (rest : List ℕ) → s ≡ drop at line → at ≤ length line → Cut tight s at t rest → length rest ≤ length line
-rest_fits line s at tight t rest is inside cut =
-    let x = split_cut line at tight t rest inside (subst (λ (l : List ℕ). Cut tight l at t rest) is cut) in
-    omega (arith, ap length x.2, length-append x.0 (written (part t) ++ rest), length-append (written (part t)) rest)
-
 -- the rest is what is left past the part
 rest_left : (line : List ℕ) (at : ℕ) (tight : Bool) (t : Token) (rest : List ℕ) → at ≤ length line → Cut tight (drop at line) at t rest → drop (length line - length rest) line ≡ rest
 rest_left line at tight t rest inside cut =

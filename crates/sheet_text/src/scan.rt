@@ -87,10 +87,8 @@ impl<'a> Cursor<'a> {
     pub fn next(self) -> Option<(Token<'a>, Cursor<'a>)>
         ensures { MatchOption result ((p : Part) → NotNext self.entry p) (λ x. Next self.entry (part x.0) x.1 × Stands self.entry.line.now x.0) }
     {
-        if self.at >= self.line.len() {
-            return None;
-        }
-        let (t, rest) = front(&self.line[self.at..], self.tight, self.at)?;
+        let left = self.line.get(self.at..)?;
+        let (t, rest) = front(left, self.tight, self.at)?;
         let after = Cursor {
             line: self.line,
             at: self.line.len() - rest.len(),
