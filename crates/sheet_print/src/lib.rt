@@ -2,8 +2,7 @@
 #![tactic(auto)]
 
 pub mod answer;
-mod decimal;
 mod put;
 
 pub use answer::Answer;
-pub use put::print;
+pub use put::{ROOM, print};
