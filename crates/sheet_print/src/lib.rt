@@ -2,6 +2,7 @@
 #![tactic(auto)]
 
 pub mod answer;
+mod front;
 mod put;
 
 pub use answer::Answer;

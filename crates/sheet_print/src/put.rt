@@ -1,9 +1,10 @@
 // Answers into a handed output.
-ghost use Rattle.std.specs.Prelude.{◌≡◌, ◌+◌, ◌≤◌, ◌++◌, length, drop, decimal};
-ghost use Rattle.std.proofs.Math.Seq.{paste};
+ghost use Rattle.std.specs.Prelude.{◌+◌, ◌≤◌, length, decimal};
+ghost use Rattle.sheet_print.specs.Fronts.{Puts};
 ghost use Rattle.sheet_print.specs.Shown.{shown, Prints};
 
 use crate::answer::Answer;
+use crate::front::Front;
 use itoa::Buffer;
 use refusal::Refusal;
 
@@ -22,21 +23,10 @@ pub fn print(answer: Answer, out: &mut [u8]) -> Result<usize, Refusal>
     Ok(front.end)
 }
 
-// The output, and where what is put at its front ends so far.
-#[derive(Drop)]
-struct Front<'a> {
-    out: &'a mut [u8],
-    end: usize,
-}
-
 impl Front<'_> {
-    // The answer's line, where nothing is put yet.
     fn line(&mut self, answer: Answer)
-        requires empty { self.old.end ≡ 0 }
-        requires room { 2048 ≤ length self.old.out.now }
-        ensures end { self.new.end ≡ length (shown answer) }
-        ensures put { self.new.out.now ≡ shown answer ++ drop self.new.end self.old.out.now }
-        ensures same_output { self.new.out.ghost_name ≡ self.old.out.ghost_name }
+        requires { self.old.end + 30 ≤ length self.old.out.now }
+        ensures { Puts self.old (shown answer) self.new }
     {
         match answer {
             Answer::Opened { slots } => {
@@ -55,9 +45,7 @@ impl Front<'_> {
 
     fn text(&mut self, text: &[u8])
         requires { self.old.end + length text.now ≤ length self.old.out.now }
-        ensures end { self.new.end ≡ self.old.end + length text.now }
-        ensures put { self.new.out.now ≡ paste self.old.out.now self.old.end text.now (length text.now) }
-        ensures same_output { self.new.out.ghost_name ≡ self.old.out.ghost_name }
+        ensures { Puts self.old text.now self.new }
     {
         let end = self.end + text.len();
         self.out[self.end..end].copy_from_slice(text);
@@ -67,10 +55,8 @@ impl Front<'_> {
     // The number's digits, 10 at most.
     fn number(&mut self, n: u32)
         requires { self.old.end + 10 ≤ length self.old.out.now }
-        ensures end { self.new.end ≡ self.old.end + length (decimal n) }
         ensures short { self.new.end ≤ self.old.end + 10 }
-        ensures put { self.new.out.now ≡ paste self.old.out.now self.old.end (decimal n) (length (decimal n)) }
-        ensures same_output { self.new.out.ghost_name ≡ self.old.out.ghost_name }
+        ensures put { Puts self.old (decimal n) self.new }
     {
         self.text(Buffer::new().format(n).as_bytes());
     }
