@@ -24,6 +24,7 @@ pub fn print(answer: Answer, out: &mut [u8]) -> Result<usize, Refusal>
 }
 
 impl Front<'_> {
+    // No `Display`: of `write!` it is known what a writer holds after an `Ok`, and not that there is one where there is room.
     fn line(&mut self, answer: Answer)
         requires { self.old.end + 30 ≤ length self.old.out.now }
         ensures { Puts self.old (shown answer) self.new }

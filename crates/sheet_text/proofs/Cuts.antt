@@ -8,7 +8,7 @@ use Rattle.std.specs.Int.{IsInRange}
 use Rattle.std.specs.List.{AllByRecursion}
 use Rattle.sheet_text.specs.declared.token.Token.{Token}
 use Rattle.sheet_text.specs.Parts.{Part, opening, closing, word, numeral, ending, written, is_opening, is_spaced, gap, onward}
-use Rattle.sheet_text.specs.Cuts.{Good, part, Stops, Ends, Cut, NoCut}
+use Rattle.sheet_text.specs.Cuts.{Good, part, Stops, Ends, Cut, NoCut, FirstOf}
 use Rattle.sheet_text.proofs.Runs.{run_unique, own}
 
 -- the bytes that a part can begin with
@@ -92,6 +92,7 @@ pub record Foreign (b : ℕ) : Type 0 where
   pub digit : IsInRange 48 57 b → ⊥
   pub letter : IsInRange 97 122 b → ⊥
 
+-- and no part's range holds it
 foreign_to : (b : ℕ) → Foreign b → (p : Part) → IsInRange (low p) (high p) b → ⊥
 foreign_to b f opening i = f.opens (omega (arith, i.0, i.1))
 foreign_to b f closing i = f.closes (omega (arith, i.0, i.1))
@@ -99,6 +100,7 @@ foreign_to b f (word w) i = f.letter i
 foreign_to b f (numeral n) i = f.digit i
 foreign_to b f ending i = f.ends (omega (arith, i.0, i.1))
 
+-- bytes that begin with a part begin with a byte of its range
 first_byte : (s : List ℕ) (p : Part) (rest : List ℕ) → Good p → s ≡ written p ++ rest → (0 < length s) × IsInRange (low p) (high p) (get_or s 0 0)
 first_byte s p rest g e =
     let x = first_in p rest g in
@@ -116,7 +118,7 @@ pub no_cut_number : (s ds rest : List ℕ) → IsInRange 48 57 (get_or s 0 0) �
 no_cut_number s ds rest i whole all stops none (numeral n) r g ends e = none n g (run_unique 48 57 ds (decimal n) rest r all (digits_decimal own n (omega arith)) stops ends (sym whole ∙ e)).0
 no_cut_number s ds rest i whole all stops none p r g ends e = let f = (first_byte s p r g e).1 in omega (arith, f.0, f.1, i.0, i.1)
 
--- for `front`, where a part before calls for a blank: the gap is a blank or nothing
+-- where a part before calls for a blank, the gap is a blank or nothing
 due : (p : Part) (b : Bool) → is_spaced p ≡ b → gap false p ≡ cond b (32 ∷ []) []
 due p b e = ap (λ (x : Bool). cond x (32 ∷ []) []) e
 
@@ -140,17 +142,15 @@ with_no_blank s other ending rest e = (refl, e)
 abbrev pub Keeps : (Part → Bool) → Option (Token × Bor (List ℕ)) → Option (Token × Bor (List ℕ)) → Type 0
 Keeps test r o = MatchOption r (o ≡ None) (λ x. o ≡ then_some (test (part x.0)) x)
 
--- r is the first part of s, which begins at the offset `at`, and the rest
-abbrev pub Front : Bool → List ℕ → ℕ → Option (Token × Bor (List ℕ)) → Type 0
-Front tight s at r = MatchOption r (NoCut tight s) (λ x. Cut tight s at x.0 x.1.now)
-
+-- where s can begin with nothing but what t does, and t is not of the kind that is due
 no_other : (s : List ℕ) (s₁ : List ℕ) (at : ℕ) (t : Token) (r : List ℕ) (b : Bool) → Cut true s₁ at t r → ((p : Part) (rest : List ℕ) → s ≡ gap false p ++ (written p ++ rest) → (is_spaced p ≡ b) × (s₁ ≡ written p ++ rest)) → (is_spaced (part t) ≡ b → ⊥) → NoCut false s
 no_other s s₁ at t r b cut here other p rest g ends e =
     let x = here p rest e in
     let same = (same_part p (part t) rest r g cut.good ends cut.ends (sym x.1 ∙ cut.whole)).0 in
     other (sym (ap is_spaced same) ∙ x.0)
 
-blank_cut : (s s₁ : List ℕ) (at : ℕ) (x : Token × Bor (List ℕ)) (o : Option (Token × Bor (List ℕ))) (b : Bool) → s ≡ 32 ∷ s₁ → Cut true s₁ (at + 1) x.0 x.1.now → is_spaced (part x.0) ≡ b → o ≡ then_some b x → Front false s at o
+-- after a blank, a part is kept just where a blank sets it off
+blank_cut : (s s₁ : List ℕ) (at : ℕ) (x : Token × Bor (List ℕ)) (o : Option (Token × Bor (List ℕ))) (b : Bool) → s ≡ 32 ∷ s₁ → Cut true s₁ (at + 1) x.0 x.1.now → is_spaced (part x.0) ≡ b → o ≡ then_some b x → FirstOf false s at o
 blank_cut s s₁ at x o true is cut spaced kept = rw kept (record {
   whole = is ∙ ap (λ (l : List ℕ). 32 ∷ l) cut.whole ∙ ap (λ (b : List ℕ). b ++ (written (part x.0) ++ x.1.now)) (sym (due (part x.0) true spaced));
   good = cut.good;
@@ -160,7 +160,8 @@ blank_cut s s₁ at x o true is cut spaced kept = rw kept (record {
 })
 blank_cut s s₁ at x o false is cut spaced kept = rw kept (no_other s s₁ (at + 1) x.0 x.1.now true cut (after_blank s s₁ is) (λ e. true≢false (sym e ∙ spaced)))
 
-plain_cut : (s : List ℕ) (at : ℕ) (x : Token × Bor (List ℕ)) (o : Option (Token × Bor (List ℕ))) (b : Bool) → (get_or s 0 0 ≡ 32 → ⊥) → Cut true s at x.0 x.1.now → is_spaced (part x.0) ≡ b → o ≡ then_some (not b) x → Front false s at o
+-- and elsewhere, just where none does
+plain_cut : (s : List ℕ) (at : ℕ) (x : Token × Bor (List ℕ)) (o : Option (Token × Bor (List ℕ))) (b : Bool) → (get_or s 0 0 ≡ 32 → ⊥) → Cut true s at x.0 x.1.now → is_spaced (part x.0) ≡ b → o ≡ then_some (not b) x → FirstOf false s at o
 plain_cut s at x o true other cut spaced kept = rw kept (no_other s s at x.0 x.1.now false cut (with_no_blank s other) (λ e. true≢false (sym spaced ∙ e)))
 plain_cut s at x o false other cut spaced kept = rw kept (record {
   whole = cut.whole ∙ ap (λ (b : List ℕ). b ++ (written (part x.0) ++ x.1.now)) (sym (due (part x.0) false spaced));
@@ -170,17 +171,18 @@ plain_cut s at x o false other cut spaced kept = rw kept (record {
   same = cut.same;
 })
 
+-- a slice that begins with a byte is the byte and the rest
 pub starts_with : (s : List ℕ) (b : ℕ) → 1 ≤ length s → get_or s 0 0 ≡ b → s ≡ b ∷ take (length s - 1) (drop 1 s)
 starts_with [] b some is = absurd (omega arith)
 starts_with (x ∷ s) b some is = ap (λ (y : ℕ). y ∷ s) is ∙ ap (λ (r : List ℕ). b ∷ r) (sym (take_rest (x ∷ s) 1))
 
--- after a blank, a part that a blank sets off
-pub front_spaced : (s s₁ : List ℕ) (at : ℕ) (r o : Option (Token × Bor (List ℕ))) → s ≡ 32 ∷ s₁ → Front true s₁ (at + 1) r → Keeps is_spaced r o → Front false s at o
+-- for `front`, where a blank is due and stands
+pub front_spaced : (s s₁ : List ℕ) (at : ℕ) (r o : Option (Token × Bor (List ℕ))) → s ≡ 32 ∷ s₁ → FirstOf true s₁ (at + 1) r → Keeps is_spaced r o → FirstOf false s at o
 front_spaced s s₁ at None o is none kept = rw kept (λ p rest g ends e. none p rest g ends (after_blank s s₁ is p rest e).1)
 front_spaced s s₁ at (Some x) o is cut kept = blank_cut s s₁ at x o (is_spaced (part x.0)) is cut refl kept
 
--- where no blank stands, one that none sets off
-pub front_unspaced : (s : List ℕ) (at : ℕ) (r o : Option (Token × Bor (List ℕ))) → (get_or s 0 0 ≡ 32 → ⊥) → Front true s at r → Keeps (λ p. not (is_spaced p)) r o → Front false s at o
+-- and where it does not
+pub front_unspaced : (s : List ℕ) (at : ℕ) (r o : Option (Token × Bor (List ℕ))) → (get_or s 0 0 ≡ 32 → ⊥) → FirstOf true s at r → Keeps (λ p. not (is_spaced p)) r o → FirstOf false s at o
 front_unspaced s at None o other none kept = rw kept (λ p rest g ends e. none p rest g ends (with_no_blank s other p rest e).1)
 front_unspaced s at (Some x) o other cut kept = plain_cut s at x o (is_spaced (part x.0)) other cut refl kept
 

@@ -1,5 +1,5 @@
 -- Runs of bytes, and the decimal form of a number.
-use Rattle.std.proofs.Common.{◌≡◌, ℕ, ◌^◌, ◌<◌, ◌≤◌, List, [], ◌∷◌, ◌++◌, length, get_or, Some, None, Option, MatchOption, ◌≢◌, Ok, Err, MatchResult, IsSomeAnd, IsUtf8, decimal, Result, sym, refl, ap, ◌∙◌, subst, ⊎_elim, arith, rules, Bor}
+use Rattle.std.proofs.Common.{◌≡◌, ℕ, ◌^◌, ◌<◌, ◌≤◌, List, [], ◌∷◌, ◌++◌, length, get_or, Some, None, Option, Ok, Err, MatchResult, IsSomeAnd, IsUtf8, decimal, Result, sym, refl, ap, ◌∙◌, subst, ⊎_elim, arith, rules, Bor}
 use Rattle.std.proofs.lemmas.Fmt.{IsAscii-from_digits, decimal_nonempty, first_decimal, decimal_digit, digits_value-decimal, decimal-digits_value}
 use Rattle.std.proofs.lemmas.Str.Parse.{IsNumeralModel, numerals_by_value, parse_digits}
 use Rattle.std.proofs.lemmas.Result.{OkIff-at_ok, OkIff-at_err}
@@ -9,7 +9,7 @@ use Rattle.std.specs.Str.Parse.{digits_value, ParsesUnsigned}
 use Rattle.std.specs.Result.{result_ok}
 use Rattle.std.specs.Int.{IsInRange}
 use Rattle.std.specs.List.{AllByRecursion}
-use Rattle.sheet_text.specs.Cuts.{Stops}
+use Rattle.sheet_text.specs.Cuts.{Stops, ValueOf}
 
 -- a run and what follows it are determined
 pub run_unique : (low high : ℕ) (xs ys r r' : List ℕ) → AllByRecursion (IsInRange low high) xs → AllByRecursion (IsInRange low high) ys → Stops low high r → Stops low high r' → xs ++ r ≡ ys ++ r' → (xs ≡ ys) × (r ≡ r')
@@ -52,7 +52,7 @@ not_parsed ds text r d same all reads is n h e =
     OkIff-at_err r _ _ d (parse_digits own 32 ds r (subst (λ (t : List ℕ). ParsesUnsigned 32 10 t r) same reads) all) is (omega (arith, decimal_nonempty n (omega arith), ap length e), omega arith)
 
 -- so it reads a number exactly where the digits are one's decimal form
-pub number_read : {E : Type 0} (ds text : List ℕ) (r : Result ℕ E) (o : Option ℕ) → o ≡ result_ok r → text ≡ ds → AllByRecursion (IsInRange 48 57) ds → (length ds ≡ 0 → ⊥) → (get_or ds 0 0 ≡ 48 → length ds ≤ 1) → ParsesUnsigned 32 10 text r → MatchOption o ((n : ℕ) → n < 2 ^ 32 → ds ≢ decimal n) (λ n. (ds ≡ decimal n) × (n < 2 ^ 32))
+pub number_read : {E : Type 0} (ds text : List ℕ) (r : Result ℕ E) (o : Option ℕ) → o ≡ result_ok r → text ≡ ds → AllByRecursion (IsInRange 48 57) ds → (length ds ≡ 0 → ⊥) → (get_or ds 0 0 ≡ 48 → length ds ≤ 1) → ParsesUnsigned 32 10 text r → ValueOf ds o
 number_read ds text (Ok n) None is same all some lead reads = absurd (let z : ◌≡◌ {A = ℕ} 0 1 = cc in omega arith)
 number_read {E} ds text (Ok n) (Some m) is same all some lead reads = parsed {E = E} ds text (Ok n) m same all some lead reads (cc)
 number_read ds text (Err d) None is same all some lead reads = not_parsed ds text (Err d) d same all reads refl

@@ -6,7 +6,7 @@ use Rattle.sheet_text.specs.declared.cursor.Cursor.{Cursor}
 use Rattle.sheet_text.specs.declared.token.Token.{Token}
 use Rattle.sheet_text.specs.Parts.{Part, closing, ending, written, is_opening, gap, onward}
 use Rattle.sheet_text.specs.Cuts.{part, place, bytes, Cut, NoCut}
-use Rattle.sheet_text.specs.Steps.{Left, Next, NotNext, Stands}
+use Rattle.sheet_text.specs.Steps.{Left, Next, NotNext, Past, Stands}
 use Rattle.sheet_text.proofs.Cuts.{first_in, same_next, onward_ends}
 
 -- no part is left: past the line's end, or where none can be cut
@@ -78,11 +78,7 @@ all_read c e = record { here = drop_all c.at c.line.now (leb-true _ _ e); goods 
 nothing_left : (c : Cursor) → Left c [] → leb (length c.line.now) c.at ≡ true
 nothing_left c left = le-leb _ _ (omega (arith, ap length left.here, length-drop c.at c.line.now))
 
--- what is the next part, where the answer says it
-abbrev pub Past : Cursor → Part → Option Cursor → Type 0
-Past c p r = MatchOption r (NotNext c p) (λ d. Next c p d)
-
--- for `closes`: past the bracket and the line's end, that nothing is left is told by the cursor's place
+-- for `closes`: past the bracket and the line's end, the cursor's place tells whether anything is left
 pub closes_where : (c : Cursor) (r s : Option Cursor) (b : Bool) → Past c closing r → MatchOption r (s ≡ None) (λ d. Past d ending s) → MatchOption s (b ≡ false) (λ e. b ≡ leb (length e.line.now) e.at) → Decides b (Left c (closing ∷ ending ∷ []))
 closes_where c None None b first second last = ((λ e. absurd (true≢false (sym e ∙ last))), (λ left. absurd (first _ left)))
 closes_where c None (Some e) b first second last = absurd (let z : ◌≡◌ {A = ℕ} 0 1 = cc in omega arith)

@@ -1,5 +1,5 @@
 -- What is left of a line at a cursor, and what one step of reading does. Only the contracts of inner functions speak of it.
-use Rattle.std.specs.Prelude.{◌≡◌, ℕ, List, ◌∷◌, length, take, drop, Some, None, Option, ◌≢◌}
+use Rattle.std.specs.Prelude.{◌≡◌, ℕ, List, ◌∷◌, length, take, drop, Some, None, Option, MatchOption, ◌≢◌}
 use Rattle.std.specs.List.{AllByRecursion}
 use Rattle.sheet_text.specs.declared.cursor.Cursor.{Cursor}
 use Rattle.sheet_text.specs.declared.form.Form.{Form}
@@ -30,6 +30,10 @@ marked End = ending
 -- p is not the next part at c
 abbrev pub NotNext : Cursor → Part → Type 0
 NotNext c p = (ps : List Part) → Left c (p ∷ ps) → ⊥
+
+-- the cursor after p, if p is the next part at c
+abbrev pub Past : Cursor → Part → Option Cursor → Type 0
+Past c p r = MatchOption r (NotNext c p) (λ d. Next c p d)
 
 -- the token's bytes are those of its part, and stand in the line at its place
 pub record Stands (line : List ℕ) (t : Token) : Type 0 where

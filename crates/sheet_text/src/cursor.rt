@@ -1,7 +1,7 @@
 // Takes a line's parts one at a time.
 ghost use Rattle.std.specs.Prelude.{ℕ, List, [], ◌∷◌, Decides, MatchOption};
 ghost use Rattle.sheet_text.specs.Parts.{closing, word, numeral, ending};
-ghost use Rattle.sheet_text.specs.Steps.{Left, Next, NotNext, marked};
+ghost use Rattle.sheet_text.specs.Steps.{Left, Next, NotNext, Past, marked};
 
 use super::token::{Mark, Token};
 
@@ -16,7 +16,7 @@ pub struct Cursor<'a> {
 impl<'a> Cursor<'a> {
     // After the mark.
     pub fn past(self, mark: Mark) -> Option<Cursor<'a>>
-        ensures { MatchOption result (NotNext self.entry (marked mark)) (λ d. Next self.entry (marked mark) d) }
+        ensures { Past self.entry (marked mark) result }
     {
         let (t, after) = self.next()?;
         match (mark, t) {
@@ -27,7 +27,7 @@ impl<'a> Cursor<'a> {
         }
     }
 
-    // A word, and the cursor after it.
+    // A word, and the cursor after it. A closure shared with `number` would hold these same arms.
     pub fn word(self) -> Option<(&'a [u8], Cursor<'a>)>
         ensures { MatchOption result ((w : List ℕ) → NotNext self.entry (word w)) (λ x. Next self.entry (word x.0.now) x.1) }
     {

@@ -1,9 +1,9 @@
 // Cuts the next part from a line.
-ghost use Rattle.std.specs.Prelude.{◌≡◌, ℕ, ◌+◌, ◌^◌, ◌<◌, ◌≤◌, true, List, ◌++◌, length, take, drop, decimal, MatchOption, ◌≢◌};
+ghost use Rattle.std.specs.Prelude.{◌≡◌, ◌+◌, ◌^◌, ◌<◌, true, ◌++◌, length, MatchOption};
 ghost use Rattle.std.specs.Int.{IsInRange};
 ghost use Rattle.std.specs.List.{AllByRecursion};
 ghost use Rattle.sheet_text.specs.Parts.{Part, is_opening, is_spaced};
-ghost use Rattle.sheet_text.specs.Cuts.{Stops, Cut, NoCut, part};
+ghost use Rattle.sheet_text.specs.Cuts.{Stops, FirstOf, ValueOf, part};
 ghost use Rattle.sheet_text.specs.Steps.{Next, NotNext, Stands};
 
 use super::cursor::Cursor;
@@ -22,7 +22,7 @@ fn run(s: &[u8], low: u8, high: u8) -> (&[u8], &[u8])
 // The number that digits write, if they are its decimal form and it fits.
 fn value(ds: &[u8]) -> Option<u32>
     requires { AllByRecursion (IsInRange 48 57) ds.now }
-    ensures { MatchOption result ((n : ℕ) → n < 2 ^ 32 → ds.now ≢ decimal n) (λ n. (ds.now ≡ decimal n) × (n < 2 ^ 32)) }
+    ensures { ValueOf ds.now result }
 {
     match ds {
         [] | [b'0', _, ..] => None,
@@ -32,7 +32,7 @@ fn value(ds: &[u8]) -> Option<u32>
 
 // The part that begins with the first byte, and the rest.
 fn token<'a>(s: &'a [u8], at: usize) -> Option<(Token<'a>, &'a [u8])>
-    ensures { MatchOption result (NoCut true s.now) (λ t. Cut true s.now at t.0 t.1.now) }
+    ensures { FirstOf true s.now at result }
 {
     match s {
         [b'(', rest @ ..] => Some((Token::Open(at), rest)),
@@ -71,7 +71,7 @@ const BLANK: u8 = b' ';
 // The part at the front, after a blank where one is due, and the rest.
 fn front<'a>(s: &'a [u8], tight: bool, at: usize) -> Option<(Token<'a>, &'a [u8])>
     requires { at + length s.now < 2 ^ 64 }
-    ensures { MatchOption result (NoCut tight s.now) (λ t. Cut tight s.now at t.0 t.1.now) }
+    ensures { FirstOf tight s.now at result }
 {
     if tight {
         return token(s, at);
