@@ -1,11 +1,11 @@
 // Runs the sheet on standard input, and prints its answers to standard output.
 #![tactic(auto)]
 
-use sheets::run_sheet;
+use sheets::{LONGEST, run_sheet};
 use std::io::{Read, Write};
 
 // One byte more than a sheet may have, so that a longer one is seen to be too long.
-const ENOUGH: u64 = 65_537;
+const ENOUGH: u64 = LONGEST as u64 + 1;
 
 fn run(rt: &HostRuntime) -> anyhow::Result<()> {
     let mut sheet = Vec::new(rt.alloc());

@@ -1,30 +1,15 @@
--- Texts put into an output one after another, from its front.
-use Rattle.std.proofs.Common.{◌≡◌, ℕ, ◌+◌, ◌≤◌, List, [], ◌++◌, length, take, drop, sym, refl, ap, ◌∙◌, append_assoc, length-append}
-use Rattle.std.proofs.lemmas.List.Edits.{paste_all}
-use Rattle.std.proofs.lemmas.List.{take_at, drop_at, drop-drop}
-use lib.Seq.{paste}
+-- Texts put into an output one after another.
+use Rattle.std.proofs.Common.{◌≤◌, List, ◌++◌, length, refl, ap, ◌∙◌, arith, length-append, sym}
+use Rattle.std.proofs.lemmas.List.Edits.{paste-paste}
+use Rattle.std.proofs.Math.Seq.{paste}
+use Rattle.sheet_print.specs.Fronts.{Puts}
+use Rattle.sheet_print.specs.declared.front.Front.{Front}
 
--- w stands at the front of what was o, and ends at `at`
-pub record Begins (o w : List ℕ) (at : ℕ) (out : List ℕ) : Type 0 where
-  pub ends : at ≡ length w
-  pub whole : out ≡ w ++ drop at o
-
-pub none : (o : List ℕ) → Begins o [] 0 o
-none o = record { ends = refl; whole = refl }
-
--- a text put where the front ends makes it longer
-pub more : {o w out : List ℕ} {at : ℕ} (text after : List ℕ) (end : ℕ) → Begins o w at out → end ≡ at + length text → after ≡ paste out at text (length text) → Begins o (w ++ text) end after
-more {o} {w} {out} {at} text after end begins ends put =
-    let n = length text in
-    let front : take at out ≡ w = ap (take at) begins.whole ∙ take_at w (drop at o) at (sym begins.ends) in
-    let rest : drop (at + n) out ≡ drop end o =
-    sym (drop-drop n at out) ∙ ap (drop n) (ap (drop at) begins.whole ∙ drop_at w (drop at o) at (sym begins.ends)) ∙ drop-drop n at o ∙ ap (λ (k : ℕ). drop k o) (sym ends) in
+-- two texts in turn are put as one
+pub both : {a b c : Front} {v w : List _} → a.end ≤ length a.out.now → Puts a v b → Puts b w c → Puts a (v ++ w) c
+both {a} {b} {c} {v} {w} inside first second =
     record {
-      ends = ends ∙ ap (λ (k : ℕ). k + n) begins.ends ∙ sym (length-append w text);
-      whole = put ∙ paste_all out at text n refl ∙ (λ i. front i ++ (text ++ rest i)) ∙ sym (append_assoc w text (drop end o));
+      end = omega (arith, first.end, second.end, length-append v w);
+      put = second.put ∙ ap (λ (l : List _). paste l b.end w (length w)) first.put ∙ ap (λ k. paste (paste a.out.now a.end v (length v)) k w (length w)) first.end ∙ paste-paste a.out.now a.end v w (length v) (length w) refl refl inside ∙ ap (λ k. paste a.out.now a.end (v ++ w) k) (sym (length-append v w));
+      same_output = second.same_output ∙ first.same_output;
     }
-
--- the whole line stands at the front
-pub printed : (o w line : List ℕ) (at : ℕ) (out : List ℕ) → Begins o w at out → w ≡ line → 2048 ≤ length o → (2048 ≤ length o) × (at ≡ length line) × (out ≡ line ++ drop at o)
-printed o w line at out begins same room =
-    (room, begins.ends ∙ ap length same, begins.whole ∙ ap (λ (l : List ℕ). l ++ drop at o) same)

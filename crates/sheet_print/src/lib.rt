@@ -2,8 +2,8 @@
 #![tactic(auto)]
 
 pub mod answer;
-mod decimal;
+mod front;
 mod put;
 
 pub use answer::Answer;
-pub use put::print;
+pub use put::{ROOM, print};

@@ -1,14 +1,15 @@
 // Answers into a handed output.
-ghost use Rattle.std.specs.Prelude.{◌≡◌, ◌+◌, ◌≤◌, length, decimal};
-ghost use Rattle.std.proofs.Math.Seq.{paste};
-ghost use Rattle.sheet_print.specs.Shown.{Prints};
+ghost use Rattle.std.specs.Prelude.{◌+◌, ◌≤◌, length, decimal};
+ghost use Rattle.sheet_print.specs.Fronts.{Puts};
+ghost use Rattle.sheet_print.specs.Shown.{shown, Prints};
 
 use crate::answer::Answer;
-use crate::decimal::{DIGITS, digits};
+use crate::front::Front;
+use itoa::Buffer;
 use refusal::Refusal;
 
 // No printed line is longer, so an output of this size takes any.
-const ROOM: usize = 2_048;
+pub const ROOM: usize = 2_048;
 
 // Puts the answer's line at the front of the output, and answers its length.
 pub fn print(answer: Answer, out: &mut [u8]) -> Result<usize, Refusal>
@@ -17,40 +18,47 @@ pub fn print(answer: Answer, out: &mut [u8]) -> Result<usize, Refusal>
     if out.len() < ROOM {
         return Err(Refusal::OutputShort);
     }
-    match answer {
-        Answer::Opened { slots } => {
-            let at = put_text(out, 0, b"(open ");
-            let at = put_number(out, at, slots);
-            Ok(put_text(out, at, b")\n"))
+    let mut front = Front { out, end: 0 };
+    front.line(answer);
+    Ok(front.end)
+}
+
+impl Front<'_> {
+    // No `Display`: of `write!` it is known what a writer holds after an `Ok`, and not that there is one where there is room.
+    fn line(&mut self, answer: Answer)
+        requires { self.old.end + 30 ≤ length self.old.out.now }
+        ensures { Puts self.old (shown answer) self.new }
+    {
+        match answer {
+            Answer::Opened { slots } => {
+                self.text(b"(open ");
+                self.number(slots);
+            }
+            Answer::Fault { line, number } => {
+                self.text(b"(fault ");
+                self.number(line);
+                self.text(b" ");
+                self.number(number);
+            }
         }
-        Answer::Fault { line, number } => {
-            let at = put_text(out, 0, b"(fault ");
-            let at = put_number(out, at, line);
-            let at = put_text(out, at, b" ");
-            let at = put_number(out, at, number);
-            Ok(put_text(out, at, b")\n"))
-        }
+        self.text(b")\n");
     }
-}
 
-// The text at `at`; answers where it ends.
-fn put_text(out: &mut [u8], at: usize, text: &[u8]) -> usize
-    requires { at + length text.now ≤ length out.old }
-    ensures end { result ≡ at + length text.now }
-    ensures put { out.new ≡ paste out.old at text.now (length text.now) }
-{
-    let end = at + text.len();
-    out[at..end].copy_from_slice(text);
-    end
-}
+    fn text(&mut self, text: &[u8])
+        requires { self.old.end + length text.now ≤ length self.old.out.now }
+        ensures { Puts self.old text.now self.new }
+    {
+        let end = self.end + text.len();
+        self.out[self.end..end].copy_from_slice(text);
+        self.end = end;
+    }
 
-// The number's digits at `at`; answers where they end.
-fn put_number(out: &mut [u8], at: usize, n: u32) -> usize
-    requires { at + 10 ≤ length out.old }
-    ensures end { result ≡ at + length (decimal n) }
-    ensures short { result ≤ at + 10 }
-    ensures put { out.new ≡ paste out.old at (decimal n) (length (decimal n)) }
-{
-    let (row, start) = digits(n);
-    put_text(out, at, &row[start..DIGITS])
+    // The number's digits, 10 at most.
+    fn number(&mut self, n: u32)
+        requires { self.old.end + 10 ≤ length self.old.out.now }
+        ensures short { self.new.end ≤ self.old.end + 10 }
+        ensures put { Puts self.old (decimal n) self.new }
+    {
+        self.text(Buffer::new().format(n).as_bytes());
+    }
 }

@@ -1,14 +1,14 @@
 -- The part at the front of some bytes is determined.
-use Rattle.std.proofs.Common.{◌≡◌, ℕ, zero, suc, ◌+◌, ◌-◌, ◌^◌, ◌<◌, ◌≤◌, Bool, true, false, cond, ◌⊎◌, List, [], ◌∷◌, ◌++◌, length, get_or, take, drop, decimal, sym, refl, ap, ◌∙◌, subst, inl, inr, ⊎_elim, add-zero, arith, take-append-drop, Bor}
-use Rattle.std.proofs.lemmas.List.{take_rest, length-take-le, get_or_past}
+use Rattle.std.proofs.Common.{◌≡◌, ℕ, ◌+◌, ◌-◌, ◌^◌, ◌<◌, ◌≤◌, Bool, true, false, cond, ◌⊎◌, List, [], ◌∷◌, ◌++◌, length, get_or, take, drop, decimal, sym, refl, ap, ◌∙◌, subst, inl, inr, ⊎_elim, add-zero, arith, Bor, ◌≢◌, Option, Some, None, MatchOption, not}
+use Rattle.std.specs.Bool.{then_some}
+use Rattle.std.proofs.lemmas.List.{take_rest}
 use Rattle.std.proofs.lemmas.Fmt.{decimal_nonempty, digits_decimal, decimal_injective}
-use Rattle.std.proofs.lemmas.Bool.{true≢false, false≢true}
+use Rattle.std.proofs.lemmas.Bool.{true≢false}
 use Rattle.std.specs.Int.{IsInRange}
 use Rattle.std.specs.List.{AllByRecursion}
 use Rattle.sheet_text.specs.declared.token.Token.{Token}
-use Rattle.sheet_text.specs.declared.token.Token.TheVariants.{Open, Close, Word, Number, End}
 use Rattle.sheet_text.specs.Parts.{Part, opening, closing, word, numeral, ending, written, is_opening, is_spaced, gap, onward}
-use Rattle.sheet_text.specs.Cuts.{Good, part, Stops, Ends, Cut, NoCut}
+use Rattle.sheet_text.specs.Cuts.{Good, part, Stops, Ends, Cut, NoCut, FirstOf}
 use Rattle.sheet_text.proofs.Runs.{run_unique, own}
 
 -- the bytes that a part can begin with
@@ -84,79 +84,41 @@ same_part ending (word v) r r' g h s t e = absurd (clash ending (word v) r r' g 
 same_part ending (numeral m) r r' g h s t e = absurd (clash ending (numeral m) r r' g h e (inl (omega arith)))
 same_part ending ending r r' g h s t e = (refl, tail_same _ _ r r' e)
 
--- for `token`, by the first byte
-pub no_cut_nil : (s : List ℕ) → length s ≡ 0 → NoCut true s
-no_cut_nil s z p rest g ends e = omega (arith, ap length e, ap length (first_in p rest g).1.1)
+-- no part begins with this byte
+pub record Foreign (b : ℕ) : Type 0 where
+  pub opens : b ≢ 40
+  pub closes : b ≢ 41
+  pub ends : b ≢ 10
+  pub digit : IsInRange 48 57 b → ⊥
+  pub letter : IsInRange 97 122 b → ⊥
 
-first_of : (s : List ℕ) → (length s ≡ 0 → ⊥) → s ≡ get_or s 0 0 ∷ drop 1 s
-first_of [] some = absurd (some refl)
-first_of (x ∷ s) some = refl
+-- and no part's range holds it
+foreign_to : (b : ℕ) → Foreign b → (p : Part) → IsInRange (low p) (high p) b → ⊥
+foreign_to b f opening i = f.opens (omega (arith, i.0, i.1))
+foreign_to b f closing i = f.closes (omega (arith, i.0, i.1))
+foreign_to b f (word w) i = f.letter i
+foreign_to b f (numeral n) i = f.digit i
+foreign_to b f ending i = f.ends (omega (arith, i.0, i.1))
 
-first_range : (s : List ℕ) → (length s ≡ 0 → ⊥) → (p : Part) (rest : List ℕ) → Good p → s ≡ written p ++ rest → IsInRange (low p) (high p) (get_or s 0 0)
-first_range s some p rest g e =
+-- bytes that begin with a part begin with a byte of its range
+first_byte : (s : List ℕ) (p : Part) (rest : List ℕ) → Good p → s ≡ written p ++ rest → (0 < length s) × IsInRange (low p) (high p) (get_or s 0 0)
+first_byte s p rest g e =
     let x = first_in p rest g in
-    subst (IsInRange (low p) (high p)) (head_same _ _ _ _ (sym x.1.1 ∙ sym e ∙ first_of s some)) x.2
+    let whole : s ≡ x.0 ∷ x.1.0 = e ∙ x.1.1 in
+    (omega (arith, ap length whole), subst (IsInRange (low p) (high p)) (sym (ap (λ (l : List ℕ). get_or l 0 0) whole)) x.2)
 
-rest_is : (s : List ℕ) (k : ℕ) → s ≡ take k s ++ take (length s - k) (drop k s)
-rest_is s k = sym (take-append-drop k s) ∙ ap (λ (r : List ℕ). take k s ++ r) (sym (take_rest s k))
+-- for `token`, where the first byte begins no part
+pub no_cut_at : (s : List ℕ) → (0 < length s → Foreign (get_or s 0 0)) → NoCut true s
+no_cut_at s foreign p rest g ends e =
+    let first = first_byte s p rest g e in
+    foreign_to _ (foreign first.0) p first.1
 
-pub byte_is : (s : List ℕ) (b : ℕ) → (length s ≡ 0 → ⊥) → get_or s 0 0 ≡ b → s ≡ b ∷ take (length s - 1) (drop 1 s)
-byte_is s b some is = first_of s some ∙ ap (λ (x : ℕ). x ∷ drop 1 s) is ∙ ap (λ (r : List ℕ). b ∷ r) (sym (take_rest s 1))
+-- and where the digits at the front are no number's decimal form
+pub no_cut_number : (s ds rest : List ℕ) → IsInRange 48 57 (get_or s 0 0) → s ≡ ds ++ rest → AllByRecursion (IsInRange 48 57) ds → Stops 48 57 rest → ((n : ℕ) → n < 2 ^ 32 → ds ≢ decimal n) → NoCut true s
+no_cut_number s ds rest i whole all stops none (numeral n) r g ends e = none n g (run_unique 48 57 ds (decimal n) rest r all (digits_decimal own n (omega arith)) stops ends (sym whole ∙ e)).0
+no_cut_number s ds rest i whole all stops none p r g ends e = let f = (first_byte s p r g e).1 in omega (arith, f.0, f.1, i.0, i.1)
 
-pub cut_open : (s : List ℕ) (at : ℕ) → (length s ≡ 0 → ⊥) → get_or s 0 0 ≡ 40 → Cut true s at (Open at) (take (length s - 1) (drop 1 s))
-cut_open s at some is = record { whole = byte_is s 40 some is; good = tt; ends = tt; starts = sym (add-zero at); same = refl }
-
-pub cut_close : (s : List ℕ) (at : ℕ) → (length s ≡ 0 → ⊥) → get_or s 0 0 ≡ 41 → Cut true s at (Close at) (take (length s - 1) (drop 1 s))
-cut_close s at some is = record { whole = byte_is s 41 some is; good = tt; ends = tt; starts = sym (add-zero at); same = refl }
-
-pub cut_end : (s : List ℕ) (at : ℕ) → (length s ≡ 0 → ⊥) → get_or s 0 0 ≡ 10 → Cut true s at (End at) (take (length s - 1) (drop 1 s))
-cut_end s at some is = record { whole = byte_is s 10 some is; good = tt; ends = tt; starts = sym (add-zero at); same = refl }
-
--- a run that the first byte belongs to is not empty
-positive : (lo hi : ℕ) (s : List ℕ) (k : ℕ) → (length s ≡ 0 → ⊥) → IsInRange lo hi (get_or s 0 0) → Stops lo hi (drop k s) → 0 < k
-positive lo hi [] k some i st = absurd (some refl)
-positive lo hi (x ∷ s) zero some i st = absurd (st i)
-positive lo hi (x ∷ s) (suc k) some i st = omega arith
-
-pub cut_word : (s : List ℕ) (at k : ℕ) (w : Bor (List ℕ)) → w.now ≡ take k s → (length s ≡ 0 → ⊥) → IsInRange 97 122 (get_or s 0 0) → k ≤ length s → AllByRecursion (IsInRange 97 122) (take k s) → Stops 97 122 (drop k s) → Cut true s at (Word w at) (take (length s - k) (drop k s))
-cut_word s at k w is some i within all st =
-    let more = positive 97 122 s k some i st in
-    record {
-      whole = rest_is s k ∙ ap (λ (x : List ℕ). x ++ take (length s - k) (drop k s)) (sym is);
-      good = (omega (arith, ap length is, length-take-le k s within), subst (AllByRecursion (IsInRange 97 122)) (sym is) all);
-      ends = subst (Stops 97 122) (sym (take_rest s k)) st;
-      starts = sym (add-zero at);
-      same = refl;
-    }
-
-pub cut_number : (s : List ℕ) (at k n : ℕ) (w : Bor (List ℕ)) → w.now ≡ take k s → take k s ≡ decimal n → n < 2 ^ 32 → Stops 48 57 (drop k s) → Cut true s at (Number n w at) (take (length s - k) (drop k s))
-cut_number s at k n w is value fits st =
-    record {
-      whole = rest_is s k ∙ ap (λ (x : List ℕ). x ++ take (length s - k) (drop k s)) value;
-      good = fits;
-      ends = subst (Stops 48 57) (sym (take_rest s k)) st;
-      starts = sym (add-zero at);
-      same = is ∙ value;
-    }
-
-pub no_cut_number : (s : List ℕ) → (length s ≡ 0 → ⊥) → IsInRange 48 57 (get_or s 0 0) → ((n : ℕ) (rest : List ℕ) → n < 2 ^ 32 → Stops 48 57 rest → s ≡ decimal n ++ rest → ⊥) → NoCut true s
-no_cut_number s some i none opening rest g ends e = let f = first_range s some opening rest g e in omega (arith, f.0, f.1, i.0, i.1)
-no_cut_number s some i none closing rest g ends e = let f = first_range s some closing rest g e in omega (arith, f.0, f.1, i.0, i.1)
-no_cut_number s some i none (word w) rest g ends e = let f = first_range s some (word w) rest g e in omega (arith, f.0, f.1, i.0, i.1)
-no_cut_number s some i none (numeral n) rest g ends e = none n rest g ends e
-no_cut_number s some i none ending rest g ends e = let f = first_range s some ending rest g e in omega (arith, f.0, f.1, i.0, i.1)
-
-pub no_cut_other : (s : List ℕ) → (length s ≡ 0 → ⊥) → ((p : Part) → IsInRange (low p) (high p) (get_or s 0 0) → ⊥) → NoCut true s
-no_cut_other s some none p rest g ends e = none p (first_range s some p rest g e)
-
-pub outside : (b : ℕ) → (b ≡ 40 → ⊥) → (b ≡ 41 → ⊥) → (b ≡ 10 → ⊥) → (IsInRange 48 57 b → ⊥) → (IsInRange 97 122 b → ⊥) → (p : Part) → IsInRange (low p) (high p) b → ⊥
-outside b h₁ h₂ h₃ h₄ h₅ opening i = h₁ (omega (arith, i.0, i.1))
-outside b h₁ h₂ h₃ h₄ h₅ closing i = h₂ (omega (arith, i.0, i.1))
-outside b h₁ h₂ h₃ h₄ h₅ (word w) i = h₅ i
-outside b h₁ h₂ h₃ h₄ h₅ (numeral n) i = h₄ i
-outside b h₁ h₂ h₃ h₄ h₅ ending i = h₃ (omega (arith, i.0, i.1))
-
--- for `front`, where a part before calls for a blank: the gap is a blank or nothing
+-- where a part before calls for a blank, the gap is a blank or nothing
 due : (p : Part) (b : Bool) → is_spaced p ≡ b → gap false p ≡ cond b (32 ∷ []) []
 due p b e = ap (λ (x : Bool). cond x (32 ∷ []) []) e
 
@@ -176,51 +138,53 @@ with_no_blank s other (word w) rest e = absurd (other (ap (λ (xs : List ℕ). g
 with_no_blank s other (numeral n) rest e = absurd (other (ap (λ (xs : List ℕ). get_or xs 0 0) e))
 with_no_blank s other ending rest e = (refl, e)
 
-pub no_cut_loose_nil : (s : List ℕ) (tight : Bool) → tight ≡ false → length s ≡ 0 → NoCut tight s
-no_cut_loose_nil s tight f z =
-    subst (λ (b : Bool). NoCut b s) (sym f) (λ p rest g ends e. no_cut_nil s z p rest g ends (with_no_blank s (λ is. omega (arith, get_or_past s 0 0 (omega arith))) p rest e).1)
+-- what is kept of r's part: all of it where the test is true of it
+abbrev pub Keeps : (Part → Bool) → Option (Token × Bor (List ℕ)) → Option (Token × Bor (List ℕ)) → Type 0
+Keeps test r o = MatchOption r (o ≡ None) (λ x. o ≡ then_some (test (part x.0)) x)
 
-pub blank_none : (s s₁ : List ℕ) (tight : Bool) → tight ≡ false → s ≡ 32 ∷ s₁ → NoCut true s₁ → NoCut tight s
-blank_none s s₁ tight f is none =
-    subst (λ (b : Bool). NoCut b s) (sym f) (λ p rest g ends e. none p rest g ends (after_blank s s₁ is p rest e).1)
-
-pub blank_unspaced : (s s₁ : List ℕ) (at : ℕ) (t : Token) (r : List ℕ) (tight : Bool) → tight ≡ false → s ≡ 32 ∷ s₁ → is_spaced (part t) ≡ false → Cut true s₁ at t r → NoCut tight s
-blank_unspaced s s₁ at t r tight f is un cut =
-    subst (λ (b : Bool). NoCut b s) (sym f) (λ p rest g ends e.
-    let x = after_blank s s₁ is p rest e in
+-- where s can begin with nothing but what t does, and t is not of the kind that is due
+no_other : (s : List ℕ) (s₁ : List ℕ) (at : ℕ) (t : Token) (r : List ℕ) (b : Bool) → Cut true s₁ at t r → ((p : Part) (rest : List ℕ) → s ≡ gap false p ++ (written p ++ rest) → (is_spaced p ≡ b) × (s₁ ≡ written p ++ rest)) → (is_spaced (part t) ≡ b → ⊥) → NoCut false s
+no_other s s₁ at t r b cut here other p rest g ends e =
+    let x = here p rest e in
     let same = (same_part p (part t) rest r g cut.good ends cut.ends (sym x.1 ∙ cut.whole)).0 in
-    true≢false (sym x.0 ∙ ap is_spaced same ∙ un))
+    other (sym (ap is_spaced same) ∙ x.0)
 
-pub blank_cut : (s s₁ : List ℕ) (at : ℕ) (t : Token) (r : List ℕ) (tight : Bool) → tight ≡ false → s ≡ 32 ∷ s₁ → is_spaced (part t) ≡ true → Cut true s₁ (at + 1) t r → Cut tight s at t r
-blank_cut s s₁ at t r tight f is spaced cut =
-    subst (λ (b : Bool). Cut b s at t r) (sym f) (record {
-      whole = is ∙ ap (λ (l : List ℕ). 32 ∷ l) cut.whole ∙ ap (λ (b : List ℕ). b ++ (written (part t) ++ r)) (sym (due (part t) true spaced));
-      good = cut.good;
-      ends = cut.ends;
-      starts = cut.starts ∙ add-zero (at + 1) ∙ ap (λ (b : List ℕ). at + length b) (sym (due (part t) true spaced));
-      same = cut.same;
-    })
+-- after a blank, a part is kept just where a blank sets it off
+blank_cut : (s s₁ : List ℕ) (at : ℕ) (x : Token × Bor (List ℕ)) (o : Option (Token × Bor (List ℕ))) (b : Bool) → s ≡ 32 ∷ s₁ → Cut true s₁ (at + 1) x.0 x.1.now → is_spaced (part x.0) ≡ b → o ≡ then_some b x → FirstOf false s at o
+blank_cut s s₁ at x o true is cut spaced kept = rw kept (record {
+  whole = is ∙ ap (λ (l : List ℕ). 32 ∷ l) cut.whole ∙ ap (λ (b : List ℕ). b ++ (written (part x.0) ++ x.1.now)) (sym (due (part x.0) true spaced));
+  good = cut.good;
+  ends = cut.ends;
+  starts = cut.starts ∙ add-zero (at + 1) ∙ ap (λ (b : List ℕ). at + length b) (sym (due (part x.0) true spaced));
+  same = cut.same;
+})
+blank_cut s s₁ at x o false is cut spaced kept = rw kept (no_other s s₁ (at + 1) x.0 x.1.now true cut (after_blank s s₁ is) (λ e. true≢false (sym e ∙ spaced)))
 
-pub plain_none : (s : List ℕ) (tight : Bool) → tight ≡ false → (get_or s 0 0 ≡ 32 → ⊥) → NoCut true s → NoCut tight s
-plain_none s tight f other none =
-    subst (λ (b : Bool). NoCut b s) (sym f) (λ p rest g ends e. none p rest g ends (with_no_blank s other p rest e).1)
+-- and elsewhere, just where none does
+plain_cut : (s : List ℕ) (at : ℕ) (x : Token × Bor (List ℕ)) (o : Option (Token × Bor (List ℕ))) (b : Bool) → (get_or s 0 0 ≡ 32 → ⊥) → Cut true s at x.0 x.1.now → is_spaced (part x.0) ≡ b → o ≡ then_some (not b) x → FirstOf false s at o
+plain_cut s at x o true other cut spaced kept = rw kept (no_other s s at x.0 x.1.now false cut (with_no_blank s other) (λ e. true≢false (sym spaced ∙ e)))
+plain_cut s at x o false other cut spaced kept = rw kept (record {
+  whole = cut.whole ∙ ap (λ (b : List ℕ). b ++ (written (part x.0) ++ x.1.now)) (sym (due (part x.0) false spaced));
+  good = cut.good;
+  ends = cut.ends;
+  starts = cut.starts ∙ ap (λ (b : List ℕ). at + length b) (sym (due (part x.0) false spaced));
+  same = cut.same;
+})
 
-pub plain_spaced : (s : List ℕ) (at : ℕ) (t : Token) (r : List ℕ) (tight : Bool) → tight ≡ false → (get_or s 0 0 ≡ 32 → ⊥) → is_spaced (part t) ≡ true → Cut true s at t r → NoCut tight s
-plain_spaced s at t r tight f other spaced cut =
-    subst (λ (b : Bool). NoCut b s) (sym f) (λ p rest g ends e.
-    let x = with_no_blank s other p rest e in
-    let same = (same_part p (part t) rest r g cut.good ends cut.ends (sym x.1 ∙ cut.whole)).0 in
-    false≢true (sym x.0 ∙ ap is_spaced same ∙ spaced))
+-- a slice that begins with a byte is the byte and the rest
+pub starts_with : (s : List ℕ) (b : ℕ) → 1 ≤ length s → get_or s 0 0 ≡ b → s ≡ b ∷ take (length s - 1) (drop 1 s)
+starts_with [] b some is = absurd (omega arith)
+starts_with (x ∷ s) b some is = ap (λ (y : ℕ). y ∷ s) is ∙ ap (λ (r : List ℕ). b ∷ r) (sym (take_rest (x ∷ s) 1))
 
-pub plain_cut : (s : List ℕ) (at : ℕ) (t : Token) (r : List ℕ) (tight : Bool) → tight ≡ false → is_spaced (part t) ≡ false → Cut true s at t r → Cut tight s at t r
-plain_cut s at t r tight f un cut =
-    subst (λ (b : Bool). Cut b s at t r) (sym f) (record {
-      whole = cut.whole ∙ ap (λ (b : List ℕ). b ++ (written (part t) ++ r)) (sym (due (part t) false un));
-      good = cut.good;
-      ends = cut.ends;
-      starts = cut.starts ∙ ap (λ (b : List ℕ). at + length b) (sym (due (part t) false un));
-      same = cut.same;
-    })
+-- for `front`, where a blank is due and stands
+pub front_spaced : (s s₁ : List ℕ) (at : ℕ) (r o : Option (Token × Bor (List ℕ))) → s ≡ 32 ∷ s₁ → FirstOf true s₁ (at + 1) r → Keeps is_spaced r o → FirstOf false s at o
+front_spaced s s₁ at None o is none kept = rw kept (λ p rest g ends e. none p rest g ends (after_blank s s₁ is p rest e).1)
+front_spaced s s₁ at (Some x) o is cut kept = blank_cut s s₁ at x o (is_spaced (part x.0)) is cut refl kept
+
+-- and where it does not
+pub front_unspaced : (s : List ℕ) (at : ℕ) (r o : Option (Token × Bor (List ℕ))) → (get_or s 0 0 ≡ 32 → ⊥) → FirstOf true s at r → Keeps (λ p. not (is_spaced p)) r o → FirstOf false s at o
+front_unspaced s at None o other none kept = rw kept (λ p rest g ends e. none p rest g ends (with_no_blank s other p rest e).1)
+front_unspaced s at (Some x) o other cut kept = plain_cut s at x o (is_spaced (part x.0)) other cut refl kept
 
 -- the next part of a line is determined
 pub same_next : (tight : Bool) (p q : Part) (r r' : List ℕ) → Good p → Good q → Ends p r → Ends q r' → gap tight p ++ (written p ++ r) ≡ gap tight q ++ (written q ++ r') → (p ≡ q) × (r ≡ r')

@@ -1,5 +1,10 @@
 -- From the parts that are left to a form, and back.
-use Rattle.std.proofs.Common.{◌≡◌, ℕ, List, ◌∷◌, drop, Some, None, codes, Option, sym, subst, arith}
+use Rattle.std.proofs.Common.{◌≡◌, ℕ, List, ◌∷◌, drop, Some, None, codes, Option, Ok, Err, Result, Bool, true, false, Decides, [], refl, ap, ◌∙◌, ◌≢◌, sym, subst, arith}
+use Rattle.std.proofs.lemmas.Bool.{false≢true}
+use Rattle.std.proofs.lemmas.Option.{none-some}
+use Rattle.std.specs.Bool.{then_some}
+use Rattle.std.specs.Result.{result_ok}
+use Rattle.refusal.specs.declared.reason.Refusal.{Refusal}
 use Rattle.std.specs.List.{AllByRecursion}
 use Rattle.sheet_text.specs.declared.form.Form.{Form}
 use Rattle.sheet_text.specs.declared.form.Form.TheVariants.{Open}
@@ -8,9 +13,9 @@ use Rattle.sheet_text.specs.declared.form.KindName.TheVariants.{Leg, Station}
 use Rattle.sheet_text.specs.declared.form.LockName.{LockName}
 use Rattle.sheet_text.specs.declared.form.LockName.TheVariants.{Queue, Ticket, Plain}
 use Rattle.sheet_text.specs.declared.cursor.Cursor.{Cursor}
-use Rattle.sheet_text.specs.Parts.{Part, opening, word, onward}
+use Rattle.sheet_text.specs.Parts.{Part, opening, closing, word, ending, onward}
 use Rattle.sheet_text.specs.Cuts.{Good}
-use Rattle.sheet_text.specs.Forms.{lock_word, kind_word, name, args, parts, Fits}
+use Rattle.sheet_text.specs.Forms.{NamedBy, lock_word, kind_word, name, args, parts, Fits}
 use Rattle.sheet_text.specs.Steps.{Left, Next, NotNext, ArgsOf, FormAt}
 
 -- what is left after a part
@@ -29,6 +34,20 @@ word_as {c} {d} e next = subst (λ (x : List ℕ). Next c (word x) d) e next
 -- the one form with the word `open`
 pub no_open : (c : Cursor) → ((lock : LockName) (slots places : ℕ) (kind : KindName) → Left c (args (Open lock slots places kind)) → ⊥) → ArgsOf (codes "open") c None
 no_open c none (Open lock slots places kind) same left = none lock slots places kind left
+
+-- and it is read where nothing but a bracket and the line's end follows its last part
+pub open_read : (c d : Cursor) (lock : LockName) (slots places : ℕ) (kind : KindName) (b : Bool) (r : Option Form) → Decides b (Left d (closing ∷ ending ∷ [])) → r ≡ then_some b (Open lock slots places kind) → (Left d (closing ∷ ending ∷ []) → Left c (args (Open lock slots places kind))) → ((l : LockName) (s p : ℕ) (k : KindName) → Left c (args (Open l s p k)) → Left d (closing ∷ ending ∷ [])) → ArgsOf (codes "open") c r
+open_read c d lock slots places kind true r closes is to from = rw is (refl, to (closes.0 refl))
+open_read c d lock slots places kind false r closes is to from = rw is (no_open c (λ l s p k left. false≢true (closes.1 (from l s p k left))))
+
+-- what `ok` keeps of an answer to a word
+pub named : {N : Type 0} (spelled : N → List ℕ) (w : List ℕ) (r : Result N Refusal) (o : Option N) (name : N) → NamedBy spelled w r → o ≡ result_ok r → o ≡ Some name → w ≡ spelled name
+named spelled w (Ok n) o name told kept is = told ∙ ap spelled (let e : n ≡ name = cc in e)
+named spelled w (Err e) o name told kept is = absurd (none-some name (sym kept ∙ is))
+
+pub unnamed : {N : Type 0} (spelled : N → List ℕ) (w : List ℕ) (r : Result N Refusal) (o : Option N) → NamedBy spelled w r → o ≡ result_ok r → o ≡ None → (name : N) → w ≢ spelled name
+unnamed spelled w (Ok n) o told kept is = absurd (none-some n (sym is ∙ kept))
+unnamed spelled w (Err e) o told kept is = told.1
 
 lock_good : (l : LockName) → Good (word (lock_word l))
 lock_good Queue = (omega arith, search arith)

@@ -1,22 +1,15 @@
 -- Runs of bytes, and the decimal form of a number.
-use Rattle.std.proofs.Common.{◌≡◌, ℕ, ◌^◌, ◌<◌, ◌≤◌, List, [], ◌∷◌, ◌++◌, length, get_or, take, drop, Ok, Err, IsUtf8, decimal, Result, sym, refl, ap, ◌∙◌, subst, ⊎_elim, arith, take-append-drop, rules}
-use Rattle.std.proofs.lemmas.List.{drop_more, drop_all}
-use Rattle.std.proofs.lemmas.Fmt.{IsAscii-from_digits, decimal_nonempty, first_decimal, decimal_digit, digits_decimal, digits_value-decimal, decimal-digits_value}
+use Rattle.std.proofs.Common.{◌≡◌, ℕ, ◌^◌, ◌<◌, ◌≤◌, List, [], ◌∷◌, ◌++◌, length, get_or, Some, None, Option, Ok, Err, MatchResult, IsSomeAnd, IsUtf8, decimal, Result, sym, refl, ap, ◌∙◌, subst, ⊎_elim, arith, rules, Bor}
+use Rattle.std.proofs.lemmas.Fmt.{IsAscii-from_digits, decimal_nonempty, first_decimal, decimal_digit, digits_value-decimal, decimal-digits_value}
 use Rattle.std.proofs.lemmas.Str.Parse.{IsNumeralModel, numerals_by_value, parse_digits}
 use Rattle.std.proofs.lemmas.Result.{OkIff-at_ok, OkIff-at_err}
 use Rattle.std.proofs.lemmas.Str.{IsUtf8-from_ascii}
 use Rattle.std.proofs.lemmas.Bool.{cases_eq}
 use Rattle.std.specs.Str.Parse.{digits_value, ParsesUnsigned}
+use Rattle.std.specs.Result.{result_ok}
 use Rattle.std.specs.Int.{IsInRange}
 use Rattle.std.specs.List.{AllByRecursion}
-use Rattle.sheet_text.specs.Cuts.{Stops}
-
--- a run stops before a byte out of its range, and at the end
-pub stops_at : (low high : ℕ) (xs : List ℕ) (n : ℕ) → n < length xs → (IsInRange low high (get_or xs n 0) → ⊥) → Stops low high (drop n xs)
-stops_at low high xs n h no' = subst (Stops low high) (sym (drop_more xs n 0 h)) no'
-
-pub stops_end : (low high : ℕ) (xs : List ℕ) (n : ℕ) → length xs ≤ n → Stops low high (drop n xs)
-stops_end low high xs n h = subst (Stops low high) (sym (drop_all n xs h)) tt
+use Rattle.sheet_text.specs.Cuts.{Stops, ValueOf}
 
 -- a run and what follows it are determined
 pub run_unique : (low high : ℕ) (xs ys r r' : List ℕ) → AllByRecursion (IsInRange low high) xs → AllByRecursion (IsInRange low high) ys → Stops low high r → Stops low high r' → xs ++ r ≡ ys ++ r' → (xs ≡ ys) × (r ≡ r')
@@ -47,22 +40,28 @@ pub not_decimal_lead : (ds : List ℕ) → get_or ds 0 0 ≡ 48 → 1 < length d
 not_decimal_lead ds z l n h e = omega (arith, decimal_lead n h (sym (ap (λ (xs : List ℕ). get_or xs 0 0) e) ∙ z), ap length e)
 
 -- what `parse` reads of digits with no leading zero
-pub parsed : {E : Type 0} (ds text : List ℕ) (r : Result ℕ E) (n : ℕ) → text ≡ ds → AllByRecursion (IsInRange 48 57) ds → (length ds ≡ 0 → ⊥) → (get_or ds 0 0 ≡ 48 → length ds ≤ 1) → ParsesUnsigned 32 10 text r → r ≡ Ok n → (ds ≡ decimal n) × (n < 2 ^ 32)
+parsed : {E : Type 0} (ds text : List ℕ) (r : Result ℕ E) (n : ℕ) → text ≡ ds → AllByRecursion (IsInRange 48 57) ds → (length ds ≡ 0 → ⊥) → (get_or ds 0 0 ≡ 48 → length ds ≤ 1) → ParsesUnsigned 32 10 text r → r ≡ Ok n → (ds ≡ decimal n) × (n < 2 ^ 32)
 parsed ds text r n same all some lead reads is =
     let got = OkIff-at_ok r _ _ n (parse_digits own 32 ds r (subst (λ (t : List ℕ). ParsesUnsigned 32 10 t r) same reads) all) is in
     let low : digits_value 10 ds < 2 ^ 32 = got.0.1 in
     (sym (decimal-digits_value own ds all (omega arith) (λ e. omega (arith, lead e)) (omega arith)) ∙ ap decimal (sym got.1), omega (arith, got.1))
 
-pub not_parsed : {E : Type 0} (ds text : List ℕ) (r : Result ℕ E) (d : E) → text ≡ ds → AllByRecursion (IsInRange 48 57) ds → ParsesUnsigned 32 10 text r → r ≡ Err d → (n : ℕ) → n < 2 ^ 32 → ds ≡ decimal n → ⊥
+not_parsed : {E : Type 0} (ds text : List ℕ) (r : Result ℕ E) (d : E) → text ≡ ds → AllByRecursion (IsInRange 48 57) ds → ParsesUnsigned 32 10 text r → r ≡ Err d → (n : ℕ) → n < 2 ^ 32 → ds ≡ decimal n → ⊥
 not_parsed ds text r d same all reads is n h e =
     let v : digits_value 10 ds ≡ n = ap (digits_value 10) e ∙ digits_value-decimal own n (omega arith) in
     OkIff-at_err r _ _ d (parse_digits own 32 ds r (subst (λ (t : List ℕ). ParsesUnsigned 32 10 t r) same reads) all) is (omega (arith, decimal_nonempty n (omega arith), ap length e), omega arith)
 
+-- so it reads a number exactly where the digits are one's decimal form
+pub number_read : {E : Type 0} (ds text : List ℕ) (r : Result ℕ E) (o : Option ℕ) → o ≡ result_ok r → text ≡ ds → AllByRecursion (IsInRange 48 57) ds → (length ds ≡ 0 → ⊥) → (get_or ds 0 0 ≡ 48 → length ds ≤ 1) → ParsesUnsigned 32 10 text r → ValueOf ds o
+number_read ds text (Ok n) None is same all some lead reads = absurd (let z : ◌≡◌ {A = ℕ} 0 1 = cc in omega arith)
+number_read {E} ds text (Ok n) (Some m) is same all some lead reads = parsed {E = E} ds text (Ok n) m same all some lead reads (cc)
+number_read ds text (Err d) None is same all some lead reads = not_parsed ds text (Err d) d same all reads refl
+number_read ds text (Err d) (Some m) is same all some lead reads = absurd (let z : ◌≡◌ {A = ℕ} 0 1 = cc in omega arith)
+
 -- digits are text
-pub digits_utf8 : (ds : List ℕ) → AllByRecursion (IsInRange 48 57) ds → IsUtf8 ds
+digits_utf8 : (ds : List ℕ) → AllByRecursion (IsInRange 48 57) ds → IsUtf8 ds
 digits_utf8 ds all = IsUtf8-from_ascii ds (IsAscii-from_digits ds (own.to ds all))
 
--- a run of digits that is no number's decimal form begins with no number
-pub no_number : (s : List ℕ) (k : ℕ) → AllByRecursion (IsInRange 48 57) (take k s) → Stops 48 57 (drop k s) → ((n : ℕ) → n < 2 ^ 32 → take k s ≡ decimal n → ⊥) → (n : ℕ) (rest : List ℕ) → n < 2 ^ 32 → Stops 48 57 rest → s ≡ decimal n ++ rest → ⊥
-no_number s k all stops none n rest h ends e =
-    none n h (run_unique 48 57 (take k s) (decimal n) (drop k s) rest all (digits_decimal own n (omega arith)) stops ends (take-append-drop k s ∙ e)).0
+pub text_of_digits : {E : Type 0} (Q : E → Type 0) (ds : List ℕ) (r : Result (Bor (List ℕ)) E) (o s : Option (Bor (List ℕ))) → AllByRecursion (IsInRange 48 57) ds → o ≡ result_ok r → MatchResult r (λ t. (t.now ≡ ds) × IsUtf8 ds) (λ e. (IsUtf8 ds → ⊥) × Q e) → o ≡ s → IsSomeAnd s (λ t. t.now ≡ ds)
+text_of_digits Q ds (Ok t) o s all kept told is = rw (sym is ∙ kept) told.0
+text_of_digits Q ds (Err e) o s all kept told is = absurd (told.0 (digits_utf8 ds all))

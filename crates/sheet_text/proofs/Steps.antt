@@ -1,11 +1,12 @@
 -- One step of a cursor along its line.
-use Rattle.std.proofs.Common.{◌≡◌, ℕ, ◌+◌, ◌-◌, ◌≤◌, Bool, true, leb, List, [], ◌++◌, length, take, drop, sym, ap, ◌∙◌, subst, append_assoc, arith, length-append, length-drop, take-append-drop, le-leb, leb-true}
+use Rattle.std.proofs.Common.{◌≡◌, ℕ, ◌+◌, ◌-◌, ◌≤◌, Bool, true, leb, List, [], ◌++◌, length, take, drop, sym, ap, ◌∙◌, subst, append_assoc, arith, length-append, length-drop, take-append-drop, le-leb, leb-true, false, Option, Some, None, MatchOption, Decides, ◌∷◌}
+use Rattle.std.proofs.lemmas.Bool.{true≢false}
 use Rattle.std.proofs.lemmas.List.{drop_all, drop_at, take_at, length-take-le}
 use Rattle.sheet_text.specs.declared.cursor.Cursor.{Cursor}
 use Rattle.sheet_text.specs.declared.token.Token.{Token}
-use Rattle.sheet_text.specs.Parts.{Part, written, is_opening, gap, onward}
+use Rattle.sheet_text.specs.Parts.{Part, closing, ending, written, is_opening, gap, onward}
 use Rattle.sheet_text.specs.Cuts.{part, place, bytes, Cut, NoCut}
-use Rattle.sheet_text.specs.Steps.{Left, Next, NotNext, Stands}
+use Rattle.sheet_text.specs.Steps.{Left, Next, NotNext, Past, Stands}
 use Rattle.sheet_text.proofs.Cuts.{first_in, same_next, onward_ends}
 
 -- no part is left: past the line's end, or where none can be cut
@@ -24,11 +25,6 @@ split_cut line at tight t rest inside cut =
       length-append (take at line) g ∙ ap (λ (n : ℕ). n + length g) (length-take-le at line inside) ∙ sym cut.starts,
       sym (take-append-drop at line) ∙ ap (λ (l : List ℕ). take at line ++ l) cut.whole ∙ sym (append_assoc (take at line) g (written (part t) ++ rest)),
     )
-
-pub rest_fits : (line s : List ℕ) (at : ℕ) (tight : Bool) (t : Token) (rest : List ℕ) → s ≡ drop at line → at ≤ length line → Cut tight s at t rest → length rest ≤ length line
-rest_fits line s at tight t rest is inside cut =
-    let x = split_cut line at tight t rest inside (subst (λ (l : List ℕ). Cut tight l at t rest) is cut) in
-    omega (arith, ap length x.2, length-append x.0 (written (part t) ++ rest), length-append (written (part t)) rest)
 
 -- the rest is what is left past the part
 rest_left : (line : List ℕ) (at : ℕ) (tight : Bool) (t : Token) (rest : List ℕ) → at ≤ length line → Cut tight (drop at line) at t rest → drop (length line - length rest) line ≡ rest
@@ -76,8 +72,16 @@ pub other_part : (c d : Cursor) (t : Token) (p : Part) → Next c (part t) d →
 other_part c d t p next other ps left = other (sym (next.from p ps left).0)
 
 -- nothing is left exactly where the cursor is at the line's end
-pub all_read : (c : Cursor) → leb (length c.line.now) c.at ≡ true → Left c []
+all_read : (c : Cursor) → leb (length c.line.now) c.at ≡ true → Left c []
 all_read c e = record { here = drop_all c.at c.line.now (leb-true _ _ e); goods = tt }
 
-pub nothing_left : (c : Cursor) → Left c [] → leb (length c.line.now) c.at ≡ true
+nothing_left : (c : Cursor) → Left c [] → leb (length c.line.now) c.at ≡ true
 nothing_left c left = le-leb _ _ (omega (arith, ap length left.here, length-drop c.at c.line.now))
+
+-- for `closes`: past the bracket and the line's end, the cursor's place tells whether anything is left
+pub closes_where : (c : Cursor) (r s : Option Cursor) (b : Bool) → Past c closing r → MatchOption r (s ≡ None) (λ d. Past d ending s) → MatchOption s (b ≡ false) (λ e. b ≡ leb (length e.line.now) e.at) → Decides b (Left c (closing ∷ ending ∷ []))
+closes_where c None None b first second last = ((λ e. absurd (true≢false (sym e ∙ last))), (λ left. absurd (first _ left)))
+closes_where c None (Some e) b first second last = absurd (let z : ◌≡◌ {A = ℕ} 0 1 = cc in omega arith)
+closes_where c (Some d) None b first second last = ((λ e. absurd (true≢false (sym e ∙ last))), (λ left. absurd (second _ (first.from _ _ left).1)))
+closes_where c (Some d) (Some e) b first second last =
+    ((λ is. first.to _ (second.to _ (all_read _ (sym last ∙ is)))), (λ left. last ∙ nothing_left _ (second.from _ _ (first.from _ _ left).1).1))

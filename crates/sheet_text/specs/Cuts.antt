@@ -1,5 +1,6 @@
 -- The part at the front of some bytes. Only the contracts of inner functions speak of it.
-use Rattle.std.specs.Prelude.{◌≡◌, ℕ, ◌+◌, ◌^◌, ◌<◌, Bool, List, [], ◌∷◌, ◌++◌, length, ◌≢◌}
+use Rattle.std.specs.Prelude.{◌≡◌, ℕ, ◌+◌, ◌^◌, ◌<◌, Bool, List, [], ◌∷◌, ◌++◌, length, decimal, Option, MatchOption, ◌≢◌}
+use Rattle.std.specs.Borrow.{Bor}
 use Rattle.std.specs.Int.{IsInRange}
 use Rattle.std.specs.List.{AllByRecursion}
 use Rattle.sheet_text.specs.declared.token.Token.{Token}
@@ -60,3 +61,11 @@ pub record Cut (tight : Bool) (s : List ℕ) (at : ℕ) (t : Token) (rest : List
 -- no part stands first in s
 abbrev pub NoCut : Bool → List ℕ → Type 0
 NoCut tight s = (p : Part) (rest : List ℕ) → Good p → Ends p rest → s ≢ gap tight p ++ (written p ++ rest)
+
+-- the first part of s, which begins at the offset `at`, and the rest; or none, where no part stands first
+abbrev pub FirstOf : Bool → List ℕ → ℕ → Option (Token × Bor (List ℕ)) → Type 0
+FirstOf tight s at r = MatchOption r (NoCut tight s) (λ x. Cut tight s at x.0 x.1.now)
+
+-- the number that digits are the decimal form of, if it fits 32 bits
+abbrev pub ValueOf : List ℕ → Option ℕ → Type 0
+ValueOf ds r = MatchOption r ((n : ℕ) → n < 2 ^ 32 → ds ≢ decimal n) (λ n. (ds ≡ decimal n) × (n < 2 ^ 32))

@@ -1,9 +1,9 @@
 // Takes a line's parts one at a time.
 ghost use Rattle.std.specs.Prelude.{ℕ, List, [], ◌∷◌, Decides, MatchOption};
-ghost use Rattle.sheet_text.specs.Parts.{opening, closing, word, numeral, ending};
-ghost use Rattle.sheet_text.specs.Steps.{Left, Next, NotNext};
+ghost use Rattle.sheet_text.specs.Parts.{closing, word, numeral, ending};
+ghost use Rattle.sheet_text.specs.Steps.{Left, Next, NotNext, Past, marked};
 
-use super::token::Token;
+use super::token::{Mark, Token};
 
 // A place in a line: the bytes from `at` on are left, and where it is tight no blank is due before the next part.
 #[derive(Clone, Copy)]
@@ -14,46 +14,25 @@ pub struct Cursor<'a> {
 }
 
 impl<'a> Cursor<'a> {
-    // After an opening bracket.
-    pub fn open(self) -> Option<Cursor<'a>>
-        ensures { MatchOption result (NotNext self.entry opening) (λ d. Next self.entry opening d) }
+    // After the mark.
+    pub fn past(self, mark: Mark) -> Option<Cursor<'a>>
+        ensures { Past self.entry (marked mark) result }
     {
         let (t, after) = self.next()?;
-        match t {
-            Token::Open(_) => Some(after),
+        match (mark, t) {
+            (Mark::Open, Token::Open(_))
+            | (Mark::Close, Token::Close(_))
+            | (Mark::End, Token::End(_)) => Some(after),
             _ => None,
         }
     }
 
-    // After a closing bracket.
-    fn close(self) -> Option<Cursor<'a>>
-        ensures { MatchOption result (NotNext self.entry closing) (λ d. Next self.entry closing d) }
-    {
-        let (t, after) = self.next()?;
-        match t {
-            Token::Close(_) => Some(after),
-            _ => None,
-        }
-    }
-
-    // After the byte that ends the line.
-    fn end(self) -> Option<Cursor<'a>>
-        ensures { MatchOption result (NotNext self.entry ending) (λ d. Next self.entry ending d) }
-    {
-        let (t, after) = self.next()?;
-        match t {
-            Token::End(_) => Some(after),
-            _ => None,
-        }
-    }
-
-    // A word, and the cursor after it.
+    // A word, and the cursor after it. A closure shared with `number` would hold these same arms.
     pub fn word(self) -> Option<(&'a [u8], Cursor<'a>)>
         ensures { MatchOption result ((w : List ℕ) → NotNext self.entry (word w)) (λ x. Next self.entry (word x.0.now) x.1) }
     {
-        let (t, after) = self.next()?;
-        match t {
-            Token::Word(w, _) => Some((w, after)),
+        match self.next()? {
+            (Token::Word(w, _), after) => Some((w, after)),
             _ => None,
         }
     }
@@ -62,9 +41,8 @@ impl<'a> Cursor<'a> {
     pub fn number(self) -> Option<(u32, Cursor<'a>)>
         ensures { MatchOption result ((n : ℕ) → NotNext self.entry (numeral n)) (λ x. Next self.entry (numeral x.0) x.1) }
     {
-        let (t, after) = self.next()?;
-        match t {
-            Token::Number(n, _, _) => Some((n, after)),
+        match self.next()? {
+            (Token::Number(n, _, _), after) => Some((n, after)),
             _ => None,
         }
     }
@@ -73,12 +51,8 @@ impl<'a> Cursor<'a> {
     pub fn closes(self) -> bool
         ensures { Decides result (Left self.entry (closing ∷ ending ∷ [])) }
     {
-        let Some(last) = self.close() else {
-            return false;
-        };
-        let Some(past) = last.end() else {
-            return false;
-        };
-        past.at >= past.line.len()
+        self.past(Mark::Close)
+            .and_then(|last| last.past(Mark::End))
+            .is_some_and(|past| past.at >= past.line.len())
     }
 }

@@ -1,43 +1,39 @@
 // Reads a line as a form.
-ghost use Rattle.std.specs.Prelude.{◌≡◌, ◌<◌, length, codes, Decides, MatchOption, ◌≢◌};
-ghost use Rattle.sheet_text.specs.declared.form.KindName.{KindName};
-ghost use Rattle.sheet_text.specs.declared.form.LockName.{LockName};
-ghost use Rattle.sheet_text.specs.Forms.{lock_word, kind_word, ReadAs};
+ghost use Rattle.std.specs.Prelude.{◌<◌, length, codes};
+ghost use Rattle.sheet_text.specs.Forms.{NamedBy, lock_word, kind_word, ReadAs};
 ghost use Rattle.sheet_text.specs.Steps.{ArgsOf, FormAt};
 
 use super::cursor::Cursor;
 use super::form::{Form, KindName, LockName};
+use super::token::Mark;
 use refusal::Refusal;
 
-fn same_text(a: &[u8], b: &[u8]) -> bool
-    ensures { Decides result (a.now ≡ b.now) }
-{
-    a == b
-}
+impl TryFrom<&[u8]> for LockName {
+    type Error = Refusal;
 
-fn lock_name(w: &[u8]) -> Option<LockName>
-    ensures { MatchOption result ((l : LockName) → w.now ≢ lock_word l) (λ l. w.now ≡ lock_word l) }
-{
-    if same_text(w, b"queue") {
-        Some(LockName::Queue)
-    } else if same_text(w, b"ticket") {
-        Some(LockName::Ticket)
-    } else if same_text(w, b"plain") {
-        Some(LockName::Plain)
-    } else {
-        None
+    ghost try_from_gives = { λ w r. NamedBy lock_word w.now r };
+
+    fn try_from(word: &[u8]) -> Result<Self, Refusal> {
+        match word {
+            b"queue" => Ok(LockName::Queue),
+            b"ticket" => Ok(LockName::Ticket),
+            b"plain" => Ok(LockName::Plain),
+            _ => Err(Refusal::LineNotWellFormed),
+        }
     }
 }
 
-fn kind_name(w: &[u8]) -> Option<KindName>
-    ensures { MatchOption result ((k : KindName) → w.now ≢ kind_word k) (λ k. w.now ≡ kind_word k) }
-{
-    if same_text(w, b"leg") {
-        Some(KindName::Leg)
-    } else if same_text(w, b"station") {
-        Some(KindName::Station)
-    } else {
-        None
+impl TryFrom<&[u8]> for KindName {
+    type Error = Refusal;
+
+    ghost try_from_gives = { λ w r. NamedBy kind_word w.now r };
+
+    fn try_from(word: &[u8]) -> Result<Self, Refusal> {
+        match word {
+            b"leg" => Ok(KindName::Leg),
+            b"station" => Ok(KindName::Station),
+            _ => Err(Refusal::LineNotWellFormed),
+        }
     }
 }
 
@@ -46,21 +42,17 @@ fn open_args(from: Cursor) -> Option<Form>
     ensures { ArgsOf (codes "open") from.entry result }
 {
     let (w, rest) = from.word()?;
-    let lock = lock_name(w)?;
+    let lock = LockName::try_from(w).ok()?;
     let (slots, rest) = rest.number()?;
     let (places, rest) = rest.number()?;
     let (v, rest) = rest.word()?;
-    let kind = kind_name(v)?;
-    if rest.closes() {
-        Some(Form::Open {
-            lock,
-            slots,
-            places,
-            kind,
-        })
-    } else {
-        None
-    }
+    let kind = KindName::try_from(v).ok()?;
+    rest.closes().then_some(Form::Open {
+        lock,
+        slots,
+        places,
+        kind,
+    })
 }
 
 // What follows the word of any form.
@@ -69,7 +61,7 @@ fn args_of(w: &[u8], from: Cursor) -> Option<Form>
     ensures { ArgsOf w.now from.entry result }
 {
     match w[0] as char {
-        'o' if same_text(w, b"open") => open_args(from),
+        'o' if matches!(w, b"open") => open_args(from),
         _ => None,
     }
 }
@@ -78,7 +70,7 @@ fn args_of(w: &[u8], from: Cursor) -> Option<Form>
 fn form(from: Cursor) -> Option<Form>
     ensures { FormAt from.entry result }
 {
-    let rest = from.open()?;
+    let rest = from.past(Mark::Open)?;
     let (w, rest) = rest.word()?;
     args_of(w, rest)
 }
@@ -91,8 +83,5 @@ pub fn read_line(line: &[u8]) -> Result<Form, Refusal>
         at: 0,
         tight: true,
     };
-    match form(start) {
-        Some(f) => Ok(f),
-        None => Err(Refusal::LineNotWellFormed),
-    }
+    form(start).ok_or(Refusal::LineNotWellFormed)
 }

@@ -8,3 +8,11 @@ pub enum Token<'a> {
     // The byte that ends the line.
     End(usize),
 }
+
+// The parts that are of one byte, whichever line they stand in.
+#[derive(Clone, Copy)]
+pub enum Mark {
+    Open,
+    Close,
+    End,
+}

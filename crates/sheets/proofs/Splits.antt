@@ -1,16 +1,10 @@
 -- Where the first line of a sheet ends.
-use Rattle.std.proofs.Common.{◌≡◌, ℕ, ◌+◌, ◌<◌, ◌≤◌, Bool, true, false, cond, eqb, List, [], ◌∷◌, ◌++◌, length, get_or, take, drop, sym, refl, ap, ◌∙◌, append_assoc, append-nil, arith}
-use Rattle.std.proofs.lemmas.List.{take_more, take_all, drop_more, drop_all}
-use Rattle.std.proofs.lemmas.Bool.{eq-eqb, ne_eqb}
+use Rattle.std.proofs.Common.{◌≡◌, ℕ, zero, suc, ◌+◌, Bool, true, false, min, cond, eqb, List, [], ◌∷◌, ◌++◌, length, sym, refl, ap, ◌∙◌, arith, Bor}
+use Rattle.std.proofs.lemmas.List.Sorted.{answers_always}
+use Rattle.std.specs.Fn.{Called, ComputesKey}
+use denote.Param.Members.{Mut}
+use Rattle.std.specs.List.{IsFirstMatchOrLen}
 use Rattle.sheets.specs.Sheets.{first_line, later_lines}
-
--- no line ends among the first i bytes
-pub record Passed (sheet : List ℕ) (i : ℕ) : Type 0 where
-  pub front : take i sheet ++ first_line (drop i sheet) ≡ first_line sheet
-  pub rest : later_lines (drop i sheet) ≡ later_lines sheet
-
-pub none_passed : (sheet : List ℕ) → Passed sheet 0
-none_passed sheet = record { front = refl; rest = refl }
 
 first_line_at : (b : ℕ) (bs : List ℕ) (test : Bool) → eqb b 10 ≡ test → first_line (b ∷ bs) ≡ cond test (b ∷ []) (b ∷ first_line bs)
 first_line_at b bs test e = ap (λ (t : Bool). cond t (b ∷ []) (b ∷ first_line bs)) e
@@ -18,30 +12,25 @@ first_line_at b bs test e = ap (λ (t : Bool). cond t (b ∷ []) (b ∷ first_li
 later_lines_at : (b : ℕ) (bs : List ℕ) (test : Bool) → eqb b 10 ≡ test → later_lines (b ∷ bs) ≡ cond test bs (later_lines bs)
 later_lines_at b bs test e = ap (λ (t : Bool). cond t bs (later_lines bs)) e
 
-pub one_more : (sheet : List ℕ) (i : ℕ) → i < length sheet → (get_or sheet i 0 ≡ 10 → ⊥) → Passed sheet i → Passed sheet (i + 1)
-one_more sheet i inside other passed =
-    let b = get_or sheet i 0 in
-    let more = drop (i + 1) sheet in
-    let at = drop_more sheet i 0 inside in
-    record {
-      front = ap (λ (l : List ℕ). l ++ first_line more) (take_more sheet i 0 inside) ∙ append_assoc (take i sheet) (b ∷ []) (first_line more) ∙ ap (λ (l : List ℕ). take i sheet ++ l) (sym (ap first_line at ∙ first_line_at b more false (ne_eqb b 10 other))) ∙ passed.front;
-      rest = sym (ap later_lines at ∙ later_lines_at b more false (ne_eqb b 10 other)) ∙ passed.rest;
-    }
+-- what is cut after the first byte 10, or at the end where there is none, is the first line
+first_is : (rest line later : List ℕ) (i : ℕ) → rest ≡ line ++ later → length line ≡ min (i + 1) (length rest) → IsFirstMatchOrLen (λ b. eqb b 10) rest i → (line ≡ first_line rest) × (later ≡ later_lines rest)
+first_is [] [] later i e long found = (refl, sym e)
+first_is [] (y ∷ line) later i e long found = absurd (omega (arith, ap length e))
+first_is (b ∷ rest) [] later i e long found = absurd (omega arith)
+first_is (b ∷ rest) (y ∷ []) later zero e long found =
+    let ends : eqb b 10 ≡ true = found.1 (omega arith) 0 in
+    let head : y ≡ b = cc in
+    let tail : later ≡ rest = cc in
+    (ap (λ (x : ℕ). x ∷ []) head ∙ sym (first_line_at b rest true ends), tail ∙ sym (later_lines_at b rest true ends))
+first_is (b ∷ rest) (y ∷ z ∷ line) later zero e long found = absurd (omega arith)
+first_is (b ∷ rest) (y ∷ line) later (suc i) e long found =
+    let goes : eqb b 10 ≡ false = found.0 0 0 (omega arith) (omega arith) in
+    let head : y ≡ b = cc in
+    let tail : rest ≡ line ++ later = cc in
+    let more = first_is rest line later i tail (omega arith) ((λ k d low below. found.0 (suc k) d (omega arith) (omega arith)), (λ below d. found.1 (omega arith) d)) in
+    ((λ j. head j ∷ more.0 j) ∙ sym (first_line_at b rest false goes), more.1 ∙ sym (later_lines_at b rest false goes))
 
--- the first line ends here
-pub at_newline : (sheet : List ℕ) (i : ℕ) → i < length sheet → get_or sheet i 0 ≡ 10 → Passed sheet i → (take (i + 1) sheet ≡ first_line sheet) × (drop (i + 1) sheet ≡ later_lines sheet)
-at_newline sheet i inside is passed =
-    let b = get_or sheet i 0 in
-    let more = drop (i + 1) sheet in
-    let at = drop_more sheet i 0 inside in (
-      take_more sheet i 0 inside ∙ ap (λ (l : List ℕ). take i sheet ++ l) (sym (ap first_line at ∙ first_line_at b more true (eq-eqb b 10 is))) ∙ passed.front,
-      sym (ap later_lines at ∙ later_lines_at b more true (eq-eqb b 10 is)) ∙ passed.rest,
-    )
-
--- the whole sheet is one line with no end
-pub at_end : (sheet : List ℕ) (i : ℕ) → length sheet ≤ i → Passed sheet i → (take (length sheet) sheet ≡ first_line sheet) × (drop (length sheet) sheet ≡ later_lines sheet)
-at_end sheet i past passed =
-    let none = drop_all i sheet past in (
-      take_all (length sheet) sheet (omega arith) ∙ sym (take_all i sheet past) ∙ sym (append-nil (take i sheet)) ∙ ap (λ (l : List ℕ). take i sheet ++ l) (sym (ap first_line none)) ∙ passed.front,
-      drop_all (length sheet) sheet (omega arith) ∙ sym (ap later_lines none) ∙ passed.rest,
-    )
+-- so it is for a part that `split_inclusive` cuts, where each call tests a byte for 10
+pub first_cut : {F : Type 0} (g : Mut F (Bor ℕ × Unit {0}) Bool) (f f' : F) (rest line later : List ℕ) → rest ≡ line ++ later → (i : ℕ) × (length line ≡ min (i + 1) (length rest)) × ((p : ℕ → Bool) → ComputesKey g p f → ComputesKey g p f' × IsFirstMatchOrLen p rest i) → ((h : F) (a : Bor ℕ × Unit {0}) (r : Bool) (h' : F) → Called g h a r h' → r ≡ eqb a.0.now 10) → (line ≡ first_line rest) × (later ≡ later_lines rest)
+first_cut g f f' rest line later e cut tests =
+    first_is rest line later cut.0 e cut.1 (cut.2 (λ b. eqb b 10) (answers_always g _ f tests)).1

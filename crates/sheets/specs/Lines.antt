@@ -9,8 +9,8 @@ use Rattle.sheet_print.specs.declared.answer.Answer.TheVariants.{Opened, Fault}
 use Rattle.sheet_text.specs.Forms.{text, Fits}
 use Rattle.sheet_text.specs.declared.form.Form.{Form}
 use Rattle.sheet_text.specs.declared.form.Form.TheVariants.{Open}
-use Rattle.sheets.specs.declared.outcome.Outcome.{Outcome}
-use Rattle.sheets.specs.declared.outcome.Outcome.TheVariants.{Answered, Faulted}
+use Rattle.std.specs.declared.ops.ControlFlow.{ControlFlow}
+use Rattle.std.specs.declared.ops.ControlFlow.TheVariants.{Continue, Break}
 use Rattle.sheets.specs.declared.state.Sheet.{Sheet}
 
 -- a run that no line has been read of
@@ -42,12 +42,12 @@ answer s (Ok (Open lock slots places kind)) = Opened slots
 answer s (Err e) = Fault (next_line s) (number_of e)
 
 -- how many bytes were printed, and whether the run goes on
-abbrev pub outcome : Sheet → Result Form Refusal → Outcome
-outcome s (Ok f) = Answered (length (shown (answer s (Ok f))))
-outcome s (Err e) = Faulted (length (shown (answer s (Err e))))
+abbrev pub outcome : Sheet → Result Form Refusal → ControlFlow ℕ ℕ
+outcome s (Ok f) = Continue (length (shown (answer s (Ok f))))
+outcome s (Err e) = Break (length (shown (answer s (Err e))))
 
 -- with less than 2,048 bytes of output the line is refused with 14 and nothing changes; else its answer stands at the output's front
-abbrev pub RunsLine : Sheet → List ℕ → List ℕ → Result Outcome Refusal → Sheet → List ℕ → Type 0
+abbrev pub RunsLine : Sheet → List ℕ → List ℕ → Result (ControlFlow ℕ ℕ) Refusal → Sheet → List ℕ → Type 0
 RunsLine s line out (Ok o) s' out' =
     (2048 ≤ length out) × ((j : Result Form Refusal) × Judged s line j × (o ≡ outcome s j) × (s' ≡ after s j) × (out' ≡ shown (answer s j) ++ drop (length (shown (answer s j))) out))
 RunsLine s line out (Err e) s' out' = (length out < 2048) × (number_of e ≡ 14) × (s' ≡ s) × (out' ≡ out)

@@ -44,11 +44,9 @@ fn sheets_print(rt: HostRuntime) -> Result<(), Fail> {
 #[test]
 fn a_short_output_is_refused(rt: HostRuntime) -> Result<(), Fail> {
     let mut out = [7u8; 2_047];
-    match Sheet::new().run_line(b"(open plain 1 3 leg)\n", &mut out) {
-        Ok(_) => Err(Fail::new("taken")),
-        Err(e) => {
-            assert_eq!(rt; e.number(), 14);
-            Ok(())
-        },
-    }
+    let refused = Sheet::new()
+        .run_line(b"(open plain 1 3 leg)\n", &mut out)
+        .err();
+    assert_eq!(rt; refused.map(|e| e.number()), Some(14));
+    Ok(())
 }

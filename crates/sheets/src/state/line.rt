@@ -1,13 +1,14 @@
 // One line of a sheet.
 ghost use Rattle.std.specs.Prelude.{◌≡◌, Ok, Err};
+ghost use Rattle.std.specs.Result.{result_err};
 ghost use Rattle.sheets.specs.declared.state.Sheet.{Sheet};
 ghost use Rattle.sheets.specs.Lines.{Judged, RunsLine, after, answer, form_refusal, next_line};
 
 use super::Sheet;
-use crate::outcome::Outcome;
 use refusal::Refusal;
 use sheet_print::{Answer, print};
 use sheet_text::{Form, read_line};
+use std::ops::ControlFlow;
 
 // The most slots, and the most places that a sheet may open a book of.
 const SLOTS: u32 = 32;
@@ -16,18 +17,23 @@ const PLACES: u32 = 1_024;
 
 impl Sheet {
     // Runs one line, handed over with the byte 10 that ends it, and prints its answer into the output.
-    pub fn run_line(&mut self, line: &[u8], out: &mut [u8]) -> Result<Outcome, Refusal>
+    // Answers how many bytes it printed, and breaks where the run ends with this line.
+    pub fn run_line(
+        &mut self,
+        line: &[u8],
+        out: &mut [u8],
+    ) -> Result<ControlFlow<usize, usize>, Refusal>
         ensures { RunsLine self.old line.now out.old result self.new out.new }
     {
         match self.judge(line) {
             Ok(form) => {
                 let n = print(answer_to(form), out)?;
                 self.accept(form);
-                Ok(Outcome::Answered(n))
+                Ok(ControlFlow::Continue(n))
             }
             Err(e) => {
                 let n = print(self.fault(e), out)?;
-                Ok(Outcome::Faulted(n))
+                Ok(ControlFlow::Break(n))
             }
         }
     }
@@ -36,34 +42,24 @@ impl Sheet {
     fn judge(&self, line: &[u8]) -> Result<Form, Refusal>
         ensures { Judged self.now line.now result }
     {
-        let form = match read_line(line) {
-            Ok(form) => form,
-            Err(_) => return Err(Refusal::LineNotWellFormed),
-        };
-        match self.refusal_of(form) {
-            Some(e) => Err(e),
-            None => Ok(form),
-        }
+        let form = read_line(line)?;
+        self.check(form)?;
+        Ok(form)
     }
 
-    fn refusal_of(&self, form: Form) -> Option<Refusal>
-        ensures { result ≡ form_refusal self.now form }
+    fn check(&self, form: Form) -> Result<(), Refusal>
+        ensures { result_err result ≡ form_refusal self.now form }
     {
         match form {
-            Form::Open {
-                lock: _,
-                slots,
-                places,
-                kind: _,
-            } => {
+            Form::Open { slots, places, .. } => {
                 if self.opened {
-                    Some(Refusal::OpenMisplaced)
-                } else if slots < 1 || slots > SLOTS {
-                    Some(Refusal::SlotCount)
-                } else if places < 1 || places > PLACES {
-                    Some(Refusal::ListLength)
+                    Err(Refusal::OpenMisplaced)
+                } else if !(1..=SLOTS).contains(&slots) {
+                    Err(Refusal::SlotCount)
+                } else if !(1..=PLACES).contains(&places) {
+                    Err(Refusal::ListLength)
                 } else {
-                    None
+                    Ok(())
                 }
             }
         }
@@ -101,11 +97,6 @@ fn answer_to(form: Form) -> Answer
     ensures { (s : Sheet) → result ≡ answer s (Ok form) }
 {
     match form {
-        Form::Open {
-            lock: _,
-            slots,
-            places: _,
-            kind: _,
-        } => Answer::Opened { slots },
+        Form::Open { slots, .. } => Answer::Opened { slots },
     }
 }

@@ -1,9 +1,7 @@
-use Rattle.std.proofs.Common.{◌≡◌, length, vec_items}
+use Rattle.std.proofs.Common.{vec_items}
+use Rattle.std.specs.Slice.Iter.{split_inclusive_rest}
 use Rattle.sheets.proofs.Printing.{Sofar}
 use Rattle.sheets.proofs.run.run_lines.Given as goal
 
-abbrev pub invariant-loop-rest : goal.invariant-loop-rest
-invariant-loop-rest l = (length l.buffer ≡ 2048) × Sofar l.sheet l.rest (vec_items l.out) l.run
-
-abbrev pub decreases-loop-rest : goal.decreases-loop-rest
-decreases-loop-rest l = length l.rest
+abbrev pub invariant-loop-line : goal.invariant-loop-line
+invariant-loop-line l = Sofar l.sheet (split_inclusive_rest l.line-iterator) (vec_items l.out) l.run

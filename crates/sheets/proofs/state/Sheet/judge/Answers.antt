@@ -1,12 +1,18 @@
 use Rattle.std.proofs.Common.{sym}
+use Rattle.std.proofs.lemmas.Result.{err_from_is_err_and}
 use Rattle.sheets.specs.Lines.{malformed, refused, accepted}
 use Rattle.sheets.proofs.state.Sheet.judge.Goals as goal
 
-pub returns-in-Err : goal.returns-in-Err
-returns-in-Err c = malformed c.in-Err.ensures.1
+pub returns-in_err-form : goal.returns-in_err-form
+returns-in_err-form c =
+    let same = err_from_is_err_and c.from_residual.result c.from_residual.ensures.1 in
+    rw (same.1, same.2, c.in_err-form.ensures.0) (malformed c.in_err-form.ensures.1)
 
-pub returns-in-Some : goal.returns-in-Some
-returns-in-Some c = let told = c.in-Ok.ensures in refused c.in-Ok.form c.in-Some.e told.0 told.1 (sym c.in-Some.ensures)
+pub returns-in_err-check : goal.returns-in_err-check
+returns-in_err-check c =
+    let same = err_from_is_err_and c.from_residual-in_err-check.result c.from_residual-in_err-check.ensures.1 in
+    let told = c.in_ok-form.ensures in
+    rw (same.1, same.2) (refused c.in_ok-form.form _ told.0 told.1 (sym c.in_err-check.ensures))
 
-pub returns-in-None : goal.returns-in-None
-returns-in-None c = let told = c.in-Ok.ensures in accepted c.in-Ok.form told.0 told.1 (sym c.in-None.ensures)
+pub returns : goal.returns
+returns c = let told = c.in_ok-form.ensures in accepted c.in_ok-form.form told.0 told.1 (sym c.in_ok-check.ensures)
