@@ -1,7 +1,7 @@
 -- What a slot's phase tells of where it stands.
 use Rattle.std.specs.Prelude.{◌≡◌, ℕ, true, ◌⊎◌, refl}
 use Rattle.std.proofs.Common.{inl, inr, arith}
-use Rattle.lock.specs.declared.words.Phase.TheVariants.{Idle, Called, Holds}
+use Rattle.lock.specs.declared.words.Phase.TheVariants.{Idle, Holds}
 use Rattle.queue_words.specs.Bar.{asks}
 use Rattle.queue_words.specs.Standings.{phase_of}
 use Rattle.queue_words.specs.declared.standing.Standing.{Standing}
@@ -95,48 +95,6 @@ holds_is E7 e = no (cc)
 holds_is E8 e = no (cc)
 holds_is E9 e = no (cc)
 holds_is E10 e = no (cc)
-
-pub called_is : (s : Standing) → phase_of s ≡ Called → (s ≡ W1) ⊎ (s ≡ R1)
-called_is I e = no (cc)
-called_is W1 e = inl refl
-called_is W2 e = no (cc)
-called_is W3 e = no (cc)
-called_is W4 e = no (cc)
-called_is W5 e = no (cc)
-called_is W6 e = no (cc)
-called_is W7 e = no (cc)
-called_is W8 e = no (cc)
-called_is WriterH e = no (cc)
-called_is V1 e = no (cc)
-called_is V2 e = no (cc)
-called_is V3 e = no (cc)
-called_is V4 e = no (cc)
-called_is V5 e = no (cc)
-called_is V6 e = no (cc)
-called_is R1 e = inr refl
-called_is R2 e = no (cc)
-called_is R3 e = no (cc)
-called_is R4 e = no (cc)
-called_is R5 e = no (cc)
-called_is R6 e = no (cc)
-called_is R7 e = no (cc)
-called_is R8 e = no (cc)
-called_is R9 e = no (cc)
-called_is R10 e = no (cc)
-called_is R11 e = no (cc)
-called_is R12 e = no (cc)
-called_is R13 e = no (cc)
-called_is ReaderH e = no (cc)
-called_is E1 e = no (cc)
-called_is E2 e = no (cc)
-called_is E3 e = no (cc)
-called_is E4 e = no (cc)
-called_is E5 e = no (cc)
-called_is E6 e = no (cc)
-called_is E7 e = no (cc)
-called_is E8 e = no (cc)
-called_is E9 e = no (cc)
-called_is E10 e = no (cc)
 
 -- who asks for its w
 pub asking_asks : (s : Standing) → is.asking s ≡ true → asks s ≡ true
