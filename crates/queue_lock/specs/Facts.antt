@@ -4,6 +4,7 @@ use Rattle.std.proofs.Common.{sym, ap, subst, ◌∙◌, inl, inr, arith}
 use Rattle.std.proofs.lemmas.Bool.{both_ways, cases_order, ltb-true, lt-ltb, cases_Bool, cases_lt}
 use Rattle.queue_words.specs.declared.standing.Standing.{Standing}
 use Rattle.queue_words.specs.declared.standing.Standing.TheVariants.{I}
+use Rattle.lock.specs.declared.words.Class.{Class}
 use Rattle.lock.specs.declared.words.Class.TheVariants.{Reading, Writing}
 use Rattle.queue_words.specs.declared.record.Successor.TheVariants.{Reader, Writer}
 use Rattle.queue_words.specs.declared.record.Record.{Record}
@@ -13,7 +14,7 @@ use Rattle.queue_lock.specs.Config.{Config}
 use Rattle.queue_lock.specs.Invariant.{Inv, Front, Alone, Act, In, Next, has, owes, Pair, share_of, share, next_share}
 use Rattle.queue_lock.specs.Every.{every, for_all, implies, apart}
 use Rattle.queue_lock.specs.PlacesInLine.{pos_inj, first_of}
-use Rattle.queue_lock.specs.Sums.{total_at}
+use Rattle.lined_lock.specs.Totals.{total_at}
 use Rattle.queue_lock.specs.Sets.{standings}
 use Rattle.queue_lock.specs.Shares.{owing_by, share_none}
 
@@ -112,6 +113,13 @@ one_owner w v p q s h k a b = cc ((v.owed p s h a).pred, (v.owed q s k b).pred)
 pub the_slot : (o : Option ℕ) → has o ≡ true → (n : ℕ) × (o ≡ Some n)
 the_slot (Some n) h = (n, refl)
 the_slot None h = let z : ◌≡◌ {A = ℕ} 0 1 = cc in absurd (omega arith)
+
+pub some_inj : (n m : ℕ) → Some n ≡ Some m → n ≡ m
+some_inj n m e = cc
+
+pub class_cases : (c : Class) → (c ≡ Reading) ⊎ (c ≡ Writing)
+class_cases Reading = inl refl
+class_cases Writing = inr refl
 
 pub one_class : (e : Record) → e.class ≡ Reading → e.class ≢ Writing
 one_class e a b = let z : ◌≡◌ {A = ℕ} 0 1 = cc (a, b) in omega arith

@@ -9,7 +9,8 @@ use Rattle.queue_words.specs.declared.record.Successor.TheVariants.{Nobody, Read
 use Rattle.queue_words.specs.declared.record.Record.{Record}
 use Rattle.queue_lock.specs.Sets as is
 use Rattle.queue_lock.specs.Places.{pos, Distinct}
-use Rattle.queue_lock.specs.Config.{Config, total}
+use Rattle.lined_lock.specs.Totals.{total}
+use Rattle.queue_lock.specs.Config.{Config}
 
 abbrev pub has : Option ℕ → Bool
 has (Some x) = true

@@ -30,7 +30,7 @@ use Rattle.queue_lock.specs.Every.{same_number, by_number}
 use Rattle.queue_lock.specs.Lands.{leads, stay, led, by_ways}
 use Rattle.queue_lock.specs.Rows.{row_of}
 use Rattle.queue_lock.specs.Safety.{writer_excludes, reader_excludes}
-use Rattle.queue_lock.specs.Standings.{idle_is, holds_is}
+use Rattle.queue_lock.specs.Standings.{is_idle, idle_is, holds_is}
 use Rattle.queue_lock.specs.Tended.{Keeps}
 use Rattle.queue_lock.specs.Turn.{Turn}
 use Rattle.queue_lock.specs.Turns.{turns}
@@ -104,13 +104,6 @@ reach Called q = enters q
 reach Waits q = enters q
 reach Holds q = true
 reach Leaves q = ends q
-
-abbrev is_idle : Phase → Bool
-is_idle Idle = true
-is_idle Called = false
-is_idle Waits = false
-is_idle Holds = false
-is_idle Leaves = false
 
 idle_by : (p : Phase) → is_idle p ≡ true → p ≡ Idle
 idle_by Idle h = refl

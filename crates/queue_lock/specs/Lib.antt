@@ -8,7 +8,6 @@ pub mod Laws
 pub mod Alter
 pub mod Shares
 pub mod Every
-pub mod Sums
 pub mod Lasts
 pub mod Lands
 pub mod Arrive

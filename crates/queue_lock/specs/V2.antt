@@ -16,7 +16,7 @@ use Rattle.queue_lock.specs.Looks.{stays}
 use Rattle.queue_lock.specs.Name.{untailed}
 use Rattle.queue_lock.specs.Rows.{Row, row, row_of}
 use Rattle.queue_lock.specs.Shares.{next_share_same, owing_by}
-use Rattle.queue_lock.specs.Sums.{total_one}
+use Rattle.lined_lock.specs.Totals.{total_one}
 use Rattle.queue_lock.specs.Turn.{stood}
 
 fetching_writeway : (l : Standing) → is.fetching l ≡ true → is.writeway l ≡ true
