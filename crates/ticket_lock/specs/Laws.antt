@@ -9,7 +9,7 @@ use Rattle.lock.specs.declared.words.Phase.TheVariants.{Idle, Called, Waits, Hol
 use Rattle.ticket_lock.specs.Invariant.{Keeps}
 use Rattle.ticket_lock.specs.Lock.{phases, classes, bars}
 use Rattle.ticket_lock.specs.Order.{times, before, reads, writes, readers_ahead, writers_ahead}
-use Rattle.ticket_lock.specs.Counts.{no, one_first}
+use Rattle.ticket_lock.specs.Counts.{one_first}
 use Rattle.ticket_lock.specs.Kept.{fit_at, idle_is, all_idle, stands_here, stands_there, kept_there, reader_free, writer_free}
 use Rattle.ticket_words.specs.Counting.{lower}
 use Rattle.ticket_words.specs.Places.{phase_of, class_of}
@@ -34,7 +34,7 @@ pub called_becomes : (w : Words) (i : ℕ) (c : Class) → length w.table.slots 
 called_becomes w i c full lt e = subst (λ x. Becomes w i (called_standing x c) (called w i c)) (idle_is _ e) (becomes w i _ _ _ _ lt full)
 
 pub means_begun : (i : ℕ) → phases fresh_words i ≡ Idle
-means_begun i = ap phase_of (all_idle 32 i)
+means_begun i = ap phase_of (all_idle i)
 
 called_phase : (c : Class) → phase_of (called_standing I c) ≡ Called
 called_phase Reading = refl
@@ -51,13 +51,13 @@ means_called w l i c h lt e f =
 
 -- who holds
 pub holds_is : (x : Standing) → phase_of x ≡ Holds → (x ≡ ReaderH) ⊎ (x ≡ WriterH)
-holds_is I e = no (cc)
-holds_is T1 e = no (cc)
-holds_is T2 e = no (cc)
-holds_is T3 e = no (cc)
-holds_is T4 e = no (cc)
-holds_is T5 e = no (cc)
-holds_is T6 e = no (cc)
+holds_is I e = absurd (cc)
+holds_is T1 e = absurd (cc)
+holds_is T2 e = absurd (cc)
+holds_is T3 e = absurd (cc)
+holds_is T4 e = absurd (cc)
+holds_is T5 e = absurd (cc)
+holds_is T6 e = absurd (cc)
 holds_is ReaderH e = inl refl
 holds_is WriterH e = inr refl
 
@@ -76,7 +76,7 @@ module _ {w : Words} {l : List ℕ} (h : Keeps w l) where
   no_writer_holds i j e z d =
       let f = fit_at h j WriterH d in
       let p = f.1 in
-      clash writes reads i j T2 WriterH e d (λ q. no (let u = ap (stands_at w) q in cc)) (omega arith) (omega arith) (omega arith) (omega arith) (omega arith) (omega arith)
+      clash writes reads i j T2 WriterH e d (λ q. absurd (let u = ap (stands_at w) q in cc)) (omega arith) (omega arith) (omega arith) (omega arith) (omega arith) (omega arith)
 
   -- a writer with nobody ahead, and another that holds
   nobody_holds : (i j : ℕ) → stands_at w i ≡ T5 → (writers_ahead (stands_at w) l i ≡ 0) × (readers_ahead (stands_at w) l i ≡ 0) → (j ≢ i) → (stands_at w j ≡ ReaderH) ⊎ (stands_at w j ≡ WriterH) → ⊥
@@ -94,7 +94,7 @@ may_at : (w : Words) (i : ℕ) (x : Standing) → stands_at w i ≡ x → MayHol
 may_at w i x e m = subst (λ y. MayHold (class_of y) (mean w) i) (sym e) m
 
 writing_holds : (x : Standing) → class_of x ≡ Writing → (x ≡ ReaderH) ⊎ (x ≡ WriterH) → x ≡ WriterH
-writing_holds x k (inl e) = no (let u = ap class_of e in cc)
+writing_holds x k (inl e) = absurd (let u = ap class_of e in cc)
 writing_holds x k (inr e) = e
 
 -- a test, and what it lets in
