@@ -288,7 +288,7 @@ module _ (w : Config) (i : ℕ) (x : Record) (v : Inv w) (lt : i < 32) (a : Arri
     owed_unnamed = λ p s h q. (owed p s h q).1;
     pairs = λ p s q. elim q.1 [ inl h ↦ (unlinked s p h q.0).3 | inr z ↦ (owed p s z.1 z.0).2 ];
     tailed = λ t q. subst (Tail f) (fact.some_inj i t q) (record { next = to_here (λ y. y.next ≡ None) i refl a.next; behind = to_here (λ y. y.state.successor ≡ Nobody) i refl a.behind; place = inl (let l = len in let p = last_place in omega arith) });
-    untailed = λ q. let j : ◌≡◌ {A = ℕ} 0 1 = cc in absurd (omega arith);
+    untailed = λ q. absurd (cc);
     one_leaves = λ t u h d.
         let b = not_here is.writeway a.writeway t h in
         let g = from_there (λ y. is.writeway y.standing ≡ true) t b h in

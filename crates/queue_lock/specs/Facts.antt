@@ -41,7 +41,7 @@ pub blocked_not_act : (e : Record) → e.state.blocked ≡ true → Act e → �
 blocked_not_act e h a = both_ways e.state.blocked a.free h
 
 pub writer_not_act : (e : Record) → e.class ≡ Writing → Act e → ⊥
-writer_not_act e h a = let z : ◌≡◌ {A = ℕ} 0 1 = cc (h, a.reads) in omega arith
+writer_not_act e h a = cc (h, a.reads)
 
 -- an active reader has a share
 act_label : (l : Standing) → is.lining l ≡ true → is.on l ≡ false → is.writing l ≡ false → cond (is.counts_two l) true (cond (is.counts_one l) true (is.sleeping_r l)) ≡ true
@@ -112,7 +112,7 @@ one_owner w v p q s h k a b = cc ((v.owed p s h a).pred, (v.owed q s k b).pred)
 -- a slot that is asked of has a value
 pub the_slot : (o : Option ℕ) → has o ≡ true → (n : ℕ) × (o ≡ Some n)
 the_slot (Some n) h = (n, refl)
-the_slot None h = let z : ◌≡◌ {A = ℕ} 0 1 = cc in absurd (omega arith)
+the_slot None h = absurd (cc)
 
 pub some_inj : (n m : ℕ) → Some n ≡ Some m → n ≡ m
 some_inj n m e = cc
@@ -122,7 +122,7 @@ class_cases Reading = inl refl
 class_cases Writing = inr refl
 
 pub one_class : (e : Record) → e.class ≡ Reading → e.class ≢ Writing
-one_class e a b = let z : ◌≡◌ {A = ℕ} 0 1 = cc (a, b) in omega arith
+one_class e a b = cc (a, b)
 
 -- the slot directly behind an active reader at the front is at the front
 pub front_next : (w : Config) (i s : ℕ) → Front w i → Act (w.at i) → pos w.line s ≡ suc (pos w.line i) → In w s → Front w s
@@ -207,7 +207,7 @@ unfolding is.writeway is.writing
 writeway_writing l h = implies is.is_writeway is.is_writing refl l h
 
 pub one_after : (e : Record) → e.state.successor ≡ Writer → e.state.successor ≢ Reader
-one_after e a b = let z : ◌≡◌ {A = ℕ} 0 1 = cc (a, b) in omega arith
+one_after e a b = cc (a, b)
 
 pub not_fetching : (l : Standing) → is.followed l ≡ true → is.fetching l ≡ false
 unfolding is.followed is.fetching

@@ -1,5 +1,5 @@
 -- X1 over a step: whoever waits for its next to be set still has an unlinked slot behind it.
-use Rattle.std.proofs.Common.{◌≡◌, ℕ, true, cond, ◌⊎◌, Some, None, sym, refl, ap, ◌∙◌, subst, inl, inr, arith}
+use Rattle.std.proofs.Common.{◌≡◌, ℕ, true, cond, ◌⊎◌, Some, None, sym, refl, ap, ◌∙◌, subst, inl, inr}
 use Rattle.std.proofs.lemmas.Bool.{cases_eq}
 use Rattle.queue_words.specs.declared.standing.Standing.{Standing}
 use Rattle.queue_lock.specs.Sets as is
@@ -53,7 +53,7 @@ module _ (w v : Config) (i : ℕ) (a l : Standing) (o : Row (w.at i).standing a)
   -- slot i writes the next of its predecessor
   pub follow_link : v.tail ≡ w.tail → (p : ℕ) → (w.at i).pred ≡ Some p → (v.at p).next ≡ Some i → cond (is.is_awaited l) (is.is_awaited a) true ≡ true → Follow w v i
   follow_link t p q e y = record {
-    unlinked = λ _ m k z. let j : p ≡ m = cc (q, k) in let b : ◌≡◌ {A = ℕ} 0 1 = cc (subst (λ x. (v.at x).next ≡ Some i) j e, z) in absurd (omega arith);
+    unlinked = λ _ m k z. let j : p ≡ m = cc (q, k) in absurd (cc (subst (λ x. (v.at x).next ≡ Some i) j e, z));
     awaited = λ h _. gives n.awaited o.awaited y h;
     tail = λ p q _. inl (t ∙ q);
   }

@@ -132,7 +132,7 @@ class_next a s h n = elim (cases_Bool (is_idle (phase_of s))) [
 
 -- a slot that holds is not idle
 pub busy : (x : Standing) → phase_of x ≡ Holds → phase_of x ≢ Idle
-busy x a b = let z : ◌≡◌ {A = ℕ} 0 1 = cc in omega arith
+busy x a b = cc
 
 -- who holds
 holding : (x : Standing) → (x ≡ ReaderH) ⊎ (x ≡ WriterH) → is.holding x ≡ true
@@ -195,7 +195,7 @@ module _ (w : Words) (l : List ℕ) (i : ℕ) (h : Keeps w l) (lt : i < 32) (m :
 
   reader_may : stands_at (stepped w i) i ≡ ReaderH → MayHold Reading (mean w) i
   reader_may e j h c = elim (holds_is (stands_at w j) h) [
-    | inl k ↦ let z : ◌≡◌ {A = ℕ} 0 1 = cc (ap class_of k, c) in omega arith
+    | inl k ↦ cc (ap class_of k, c)
     | inr k ↦ let b = from_front e in never (λ v. reader_excludes before v i b.0 b.1 ((v.own i).reading b.2) j k ((v.own j).writing (row_of k).writing))
   ]
 

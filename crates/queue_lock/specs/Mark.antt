@@ -71,7 +71,7 @@ module _ (w : Config) (i p : ℕ) (a m l : Standing) (c : Successor) (v : Inv w)
     -- second part: the note
     notes : Notes one p c
     notes = record {
-      wakes = λ h. let z : ◌≡◌ {A = ℕ} 0 1 = cc (nobody, (v.own p).wakes (subst (λ y. is.wakes y.standing ≡ true) same_p h)) in absurd (omega arith);
+      wakes = λ h. absurd (cc (nobody, (v.own p).wakes (subst (λ y. is.wakes y.standing ≡ true) same_p h)));
       names = λ h. absurd (both_ways _ (fact.not_names _ before.standing) (subst (λ y. is.names y.standing ≡ true) same_p h));
       next = ap (λ y. y.next) same_p ∙ before.next;
       alone = λ s u z. elim (cases_eq s i) [

@@ -1,5 +1,5 @@
 -- What a step leaves as it was: of every other slot all that a hand-over reads, of the slot that steps its pred, next and block.
-use Rattle.std.proofs.Common.{◌≡◌, ℕ, true, false, ◌⊎◌, Some, None, Option, sym, refl, ap, ◌∙◌, subst, inl, inr, arith}
+use Rattle.std.proofs.Common.{◌≡◌, ℕ, true, false, ◌⊎◌, Some, None, Option, sym, refl, ap, ◌∙◌, subst, inl, inr}
 use Rattle.std.proofs.lemmas.Bool.{cases_eq, both_ways}
 use Rattle.std.proofs.lemmas.Option.{none-some}
 use Rattle.queue_words.specs.Records.{relabelled, freed, noted, linked, keeping}
@@ -93,6 +93,6 @@ noted_later e a z =
       w = refl;
       owing = λ h. owing_by e.class e.state.successor e.standing h (owes (noted e a) ≡ true)
           (λ c q. owing_writer e.class a e.standing c q)
-          (λ _ r _. let y : ◌≡◌ {A = ℕ} 0 1 = cc (z, r) in absurd (omega arith))
-          (λ _ r _. let y : ◌≡◌ {A = ℕ} 0 1 = cc (z, r) in absurd (omega arith));
+          (λ _ r _. absurd (cc (z, r)))
+          (λ _ r _. absurd (cc (z, r)));
     }
