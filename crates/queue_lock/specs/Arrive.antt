@@ -1,5 +1,5 @@
 -- A called slot arrives: it writes its record, becomes the tail, and stands at the end of the line.
-use Rattle.std.specs.Prelude.{◌≡◌, ℕ, suc, ◌<◌, Bool, true, false, cond, [], ◌∷◌, ◌++◌, length, Some, None, Option, ◌≢◌, nat_lt}
+use Rattle.std.specs.Prelude.{is_some, ◌≡◌, ℕ, suc, ◌<◌, Bool, true, false, cond, [], ◌∷◌, ◌++◌, length, Some, None, Option, ◌≢◌, nat_lt}
 use Rattle.std.proofs.Math.Path.{refl, sym, ap, subst}
 use Rattle.std.proofs.Common.{◌∙◌}
 use Rattle.std.proofs.Math.Logic.{inl, inr}
@@ -13,7 +13,7 @@ use Rattle.queue_words.specs.declared.record.Record.{Record}
 use Rattle.queue_lock.specs.Sets as is
 use Rattle.queue_lock.specs.Places.{pos}
 use Rattle.queue_lock.specs.Config.{Config, upd}
-use Rattle.queue_lock.specs.Invariant.{Inv, Own, Front, Alone, Act, In, Waits, Behind, Owed, Next, Tail, has, owes, admitted, only, share_of, share, AllAct, next_share, one_if}
+use Rattle.queue_lock.specs.Invariant.{Inv, Own, Front, Alone, Act, In, Waits, Behind, Owed, Next, Tail, owes, admitted, only, share_of, share, AllAct, next_share, one_if}
 use Rattle.queue_lock.specs.Every.{implies, apart}
 use Rattle.queue_lock.specs.Facts as fact
 use Rattle.queue_lock.specs.PlacesInLine.{pos_le, pos_joined, pos_joined_in, pos_joined_out, length_joined, distinct_joined}
@@ -214,7 +214,7 @@ module _ (w : Config) (i : ℕ) (x : Record) (v : Inv w) (lt : i < 32) (a : Arri
   -- D2 and D3 of an owed slot
   owed : (p s : ℕ) → owes (f.at p) ≡ true → (f.at p).next ≡ Some s → Owed p (f.at p) (f.at s) × (w.next_writer ≢ Some s) × Next f p s
   owed p s h q = elim (cases_eq p i) [
-    | inl z ↦ absurd (fact.nobody x.next (ap has (from_here (λ y. y.next ≡ Some s) p z q)) a.next)
+    | inl z ↦ absurd (fact.nobody x.next (ap is_some (from_here (λ y. y.next ≡ Some s) p z q)) a.next)
     | inr d ↦
         let g = from_there (λ y. owes y ≡ true) p d h in
         let k = from_there (λ y. y.next ≡ Some s) p d q in

@@ -6,7 +6,7 @@ use Rattle.queue_lock.specs.Sets as is
 use Rattle.queue_lock.specs.Config.{Config}
 use Rattle.queue_lock.specs.Tended.{Tended}
 use Rattle.queue_lock.specs.Every.{implies}
-use Rattle.queue_lock.specs.Untouched.{Keeps, kept, none_before, is_some}
+use Rattle.queue_lock.specs.Untouched.{Keeps, kept, none_before, slot_or_not}
 use Rattle.queue_lock.specs.Rows.{Row}
 use Rattle.queue_lock.specs.Tested.{no, gives, lacks}
 
@@ -40,7 +40,7 @@ module _ (w v : Config) (i : ℕ) (g : Tended w) (k : Keeps w.at v.at i) (r : Fo
         | inr d ↦ subst (λ l. is.awaited l ≡ true) (k.others p d).standing h
       ] in
       let n = none_before (kept k p (inl a)) z in
-      elim (is_some w.tail p) [
+      elim (slot_or_not w.tail p) [
         | inl q ↦ elim (r.tail p q h) [ inl y ↦ absurd (t y) | inr y ↦ (i, y) ]
         | inr d ↦ still p z (g.followed p a n d)
       ]

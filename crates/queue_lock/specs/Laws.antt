@@ -1,5 +1,5 @@
 -- The queue lock's moves mean what a lock's are to mean.
-use Rattle.std.specs.Prelude.{◌≡◌, ℕ, ◌<◌, Bool, true, false, cond, ◌⊎◌, List, length, ◌==◌, ◌≢◌}
+use Rattle.std.specs.Prelude.{◌≡◌, ℕ, ◌<◌, Bool, true, false, cond, ◌⊎◌, List, ◌==◌, ◌≢◌}
 use Rattle.std.proofs.Math.Path.{refl, subst}
 use Rattle.std.proofs.Common.{sym, ap, ◌∙◌, inl, inr, arith}
 use mathlib.Core.HLevel.{⊥_prop}
@@ -19,7 +19,7 @@ use Rattle.queue_words.specs.Steps.{slot, stands_at, stand, called_standing, fin
 use Rattle.queue_words.specs.declared.standing.Standing.{Standing}
 use Rattle.queue_words.specs.declared.standing.Standing.TheVariants.{I, W8, ReaderH, WriterH}
 use Rattle.queue_words.specs.declared.words.Words.{Words}
-use Rattle.queue_lock.specs.Config.{Config, config}
+use Rattle.queue_lock.specs.Config.{Config, Full, config}
 use Rattle.queue_lock.specs.Invariant.{Inv}
 use Rattle.queue_lock.specs.Lock.{phases, classes, bars}
 use Rattle.queue_lock.specs.Sets as is
@@ -45,7 +45,7 @@ pub record Becomes (w : Words) (i : ℕ) (x : Standing) (v : Words) : Type 0 whe
   pub others : (j : ℕ) → (j ≢ i) → stands_at v j ≡ stands_at w j
 
 -- the slot stands elsewhere, and nothing else moves
-restands : (w : Words) (l : List ℕ) (i : ℕ) (x : Standing) → length w.table.slots ≡ 32 → i < 32 → Becomes w i x (stand w i x)
+restands : (w : Words) (l : List ℕ) (i : ℕ) (x : Standing) → Full w → i < 32 → Becomes w i x (stand w i x)
 restands w l i x full lt =
     let a : Config = config w l in
     let r : Record = relabelled (slot w i) x in

@@ -16,7 +16,7 @@ use Rattle.queue_words.specs.declared.record.Successor.TheVariants.{Nobody, Read
 use Rattle.queue_words.specs.declared.standing.Standing.{Standing}
 use Rattle.queue_words.specs.declared.standing.Standing.TheVariants.{I, W1, W2, W3, W4, W5, W6, W7, W8, WriterH, V1, V2, V3, V4, V5, V6, R1, R2, R3, R4, R5, R6, R7, R8, R9, R10, R11, R12, R13, ReaderH, E1, E2, E3, E4, E5, E6, E7, E8, E9, E10}
 use Rattle.queue_words.specs.declared.words.Words.{Words}
-use Rattle.queue_lock.specs.Config.{Config, config}
+use Rattle.queue_lock.specs.Config.{Full, Config, config}
 use Rattle.queue_lock.specs.Invariant.{Inv}
 use Rattle.queue_lock.specs.Sets as is
 use Rattle.queue_lock.specs.Alter as alter
@@ -30,7 +30,7 @@ use Rattle.queue_lock.specs.Rows.{row, row_of}
 use Rattle.queue_lock.specs.Turn.{Turn, stood, waked, marked, joined}
 use Rattle.queue_lock.specs.Turn as to
 use Rattle.queue_lock.specs.V6 as writer-hands
-use Rattle.queue_lock.specs.View.{Full, full_put, puts, stands, unchanged, twice, few}
+use Rattle.queue_lock.specs.View.{full_put, puts, stands, unchanged, twice, few}
 
 -- an option is none or some slot
 some_or_none : (o : Option ℕ) → (o ≡ None) ⊎ ((n : ℕ) × (o ≡ Some n))

@@ -31,9 +31,9 @@ pub record Keeps (f g : ℕ → Record) (i : ℕ) : Type 0 where
   pub others : (s : ℕ) → (s ≡ i → ⊥) → Later (f s) (g s)
   pub own : (is.awaited (f i).standing ≡ true) ⊎ (owes (f i) ≡ true) → Kept (f i) (g i)
 
-pub is_some : (o : Option ℕ) (n : ℕ) → (o ≡ Some n) ⊎ (o ≡ Some n → ⊥)
-is_some None n = inr (λ e. none-some n e)
-is_some (Some m) n = elim (cases_eq m n) [ inl e ↦ inl (ap Some e) | inr d ↦ inr (λ e. d cc) ]
+pub slot_or_not : (o : Option ℕ) (n : ℕ) → (o ≡ Some n) ⊎ (o ≡ Some n → ⊥)
+slot_or_not None n = inr (λ e. none-some n e)
+slot_or_not (Some m) n = elim (cases_eq m n) [ inl e ↦ inl (ap Some e) | inr d ↦ inr (λ e. d cc) ]
 
 pub none_before : {a b : Record} → Kept a b → b.next ≡ None → a.next ≡ None
 none_before {a} {b} k e = elim a.next as (λ o. ((n : ℕ) → o ≡ Some n → b.next ≡ Some n) → o ≡ None) [ None ↦ λ _. refl | Some n ↦ λ h. absurd (none-some n (sym e ∙ h n refl)) ] k.next

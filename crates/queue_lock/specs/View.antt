@@ -13,7 +13,7 @@ use Rattle.queue_words.specs.declared.standing.Standing.{Standing}
 use Rattle.queue_words.specs.declared.words.Words.{Words}
 use Rattle.lined_lock.specs.Tables.{all_alike}
 use Rattle.lined_lock.specs.Totals.{total_le}
-use Rattle.queue_lock.specs.Config.{Config, config, upd}
+use Rattle.queue_lock.specs.Config.{Config, Full, config, upd}
 use Rattle.queue_lock.specs.Invariant.{Inv, share, share_of, one_if, next_share}
 use Rattle.queue_lock.specs.Alter.{altered}
 use Rattle.queue_lock.specs.Safety.{fresh}
@@ -25,10 +25,6 @@ written xs k r h = fun_ext (λ j. elim (cases_eq j k) [
   | inl q ↦ ap (record_at (slice_set xs k r)) q ∙ get_or-set_same xs k r unused h ∙ sym (cond-true (j == k) r (record_at xs j) (eq-eqb j k q))
   | inr d ↦ get_or-set_other xs k j r unused d ∙ sym (cond-false (j == k) r (record_at xs j) (ne_eqb j k d))
 ])
-
--- the table has a record for each of the 32 slots
-abbrev pub Full : Words → Type 0
-Full w = length w.table.slots ≡ 32
 
 pub full_put : (w : Words) (k : ℕ) (r : Record) → Full w → Full (put w k r)
 full_put w k r f = length-set w.table.slots k r ∙ f

@@ -9,7 +9,7 @@ use Rattle.lock.specs.Meaning.{steps_from}
 use Rattle.lock.specs.declared.words.Class.{Class}
 use Rattle.lock.specs.declared.words.Class.TheVariants.{Reading, Writing}
 use Rattle.lock.specs.declared.words.Phase.TheVariants.{Idle, Holds}
-use Rattle.ticket_lock.specs.Invariant.{Fits, Keeps}
+use Rattle.ticket_lock.specs.Invariant.{Fits, Full, Keeps}
 use Rattle.ticket_lock.specs.Lock.{phases}
 use Rattle.ticket_lock.specs.Order.{adv, reads, writes, read_leaves, write_leaves, readers_ahead, writers_ahead}
 use Rattle.ticket_lock.specs.Sound.{Alone, line_few, no_writers, no_readers}
@@ -25,7 +25,7 @@ pub fit_at : {w : Words} {l : List ℕ} → Keeps w l → (i : ℕ) (x : Standin
 fit_at {w} {l} h i x e = subst (λ y. Fits y (kept_by w i) w.completions (readers_ahead (stands_at w) l i) (writers_ahead (stands_at w) l i)) e (h.sound.fits i)
 
 -- one slot's place is written
-module _ (w : Words) (i : ℕ) (x : Standing) (k r c : ℕ) (lt : i < 32) (full : length w.table.slots ≡ 32) where
+module _ (w : Words) (i : ℕ) (x : Standing) (k r c : ℕ) (lt : i < 32) (full : Full w) where
   abbrev after : Words
   after = written w i x k r c
 
@@ -47,7 +47,7 @@ module _ (w : Words) (i : ℕ) (x : Standing) (k r c : ℕ) (lt : i < 32) (full 
   alone : Alone (stands_at w) (stands_at after) (kept_by w) (kept_by after) i
   alone = record { slot = lt; stands = stands_there; keeps = kept_there }
 
-  full_after : length after.table.slots ≡ 32
+  full_after : Full after
   full_after = simp length-set full
 
 -- the halves of a word with one more counted

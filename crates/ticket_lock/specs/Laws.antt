@@ -1,12 +1,12 @@
 -- The ticket lock's moves mean what a lock's are to mean.
-use Rattle.std.specs.Prelude.{◌≡◌, ℕ, ◌+◌, ◌<◌, ◌≤◌, Bool, true, false, cond, ◌⊎◌, List, length, ◌==◌, ◌≢◌, refl}
+use Rattle.std.specs.Prelude.{◌≡◌, ℕ, ◌+◌, ◌<◌, ◌≤◌, Bool, true, false, cond, ◌⊎◌, List, ◌==◌, ◌≢◌, refl}
 use Rattle.std.proofs.Common.{sym, ap, subst, ◌∙◌, inl, inr, arith}
 use Rattle.lined_lock.specs.Standings.{call_means, step_means, finish_means}
 use Rattle.lock.specs.Meaning.{Meaning, meant, CalledIn, MayHold, Reaches, Stepped, Finished, steps_from}
 use Rattle.lock.specs.declared.words.Class.{Class}
 use Rattle.lock.specs.declared.words.Class.TheVariants.{Reading, Writing}
 use Rattle.lock.specs.declared.words.Phase.TheVariants.{Idle, Called, Waits, Holds, Leaves}
-use Rattle.ticket_lock.specs.Invariant.{Keeps}
+use Rattle.ticket_lock.specs.Invariant.{Full, Keeps}
 use Rattle.ticket_lock.specs.Lock.{phases, classes, bars}
 use Rattle.ticket_lock.specs.Order.{times, before, reads, writes, readers_ahead, writers_ahead}
 use Rattle.ticket_lock.specs.Counts.{one_first}
@@ -27,10 +27,10 @@ pub record Becomes (w : Words) (i : ℕ) (x : Standing) (v : Words) : Type 0 whe
   pub others : (j : ℕ) → (j ≢ i) → stands_at v j ≡ stands_at w j
   pub keeps : (j : ℕ) → (j ≢ i) → kept_by v j ≡ kept_by w j
 
-pub becomes : (w : Words) (i : ℕ) (x : Standing) (k r c : ℕ) → i < 32 → length w.table.slots ≡ 32 → Becomes w i x (written w i x k r c)
+pub becomes : (w : Words) (i : ℕ) (x : Standing) (k r c : ℕ) → i < 32 → Full w → Becomes w i x (written w i x k r c)
 becomes w i x k r c lt full = record { here = stands_here w i x k r c lt full; others = stands_there w i x k r c lt full; keeps = kept_there w i x k r c lt full }
 
-pub called_becomes : (w : Words) (i : ℕ) (c : Class) → length w.table.slots ≡ 32 → i < 32 → phases w i ≡ Idle → Becomes w i (called_standing I c) (called w i c)
+pub called_becomes : (w : Words) (i : ℕ) (c : Class) → Full w → i < 32 → phases w i ≡ Idle → Becomes w i (called_standing I c) (called w i c)
 called_becomes w i c full lt e = subst (λ x. Becomes w i (called_standing x c) (called w i c)) (idle_is _ e) (becomes w i _ _ _ _ lt full)
 
 pub means_begun : (i : ℕ) → phases fresh_words i ≡ Idle
