@@ -2,7 +2,7 @@
 use Rattle.std.specs.Prelude.{◌≡◌, ℕ, ◌+◌, ◌<◌, ◌≤◌, Bool, true, false, cond, ◌⊎◌, List, ◌==◌, ◌≢◌, refl}
 use Rattle.std.proofs.Common.{sym, ap, subst, ◌∙◌, inl, inr, arith}
 use Rattle.lined_lock.specs.Standings.{call_means, step_means, finish_means}
-use Rattle.lock.specs.Meaning.{Meaning, meant, CalledIn, MayHold, Reaches, Stepped, Finished, steps_from}
+use Rattle.lock.specs.Meaning.{Meaning, Moved, meant, CalledIn, MayHold, Reaches, Stepped, Finished, steps_from}
 use Rattle.lock.specs.declared.words.Class.{Class}
 use Rattle.lock.specs.declared.words.Class.TheVariants.{Reading, Writing}
 use Rattle.lock.specs.declared.words.Phase.TheVariants.{Idle, Called, Waits, Holds, Leaves}
@@ -21,14 +21,13 @@ use Rattle.ticket_words.specs.declared.words.Words.{Words}
 abbrev pub mean : Words → Meaning
 mean = meant phases classes bars
 
--- where slot i, and where each other slot, stands after a move
+-- where each slot stands after a move of slot i, and that the others have kept what they had
 pub record Becomes (w : Words) (i : ℕ) (x : Standing) (v : Words) : Type 0 where
-  pub here : stands_at v i ≡ x
-  pub others : (j : ℕ) → (j ≢ i) → stands_at v j ≡ stands_at w j
+  pub stands : Moved (stands_at w) i x (stands_at v)
   pub keeps : (j : ℕ) → (j ≢ i) → kept_by v j ≡ kept_by w j
 
 pub becomes : (w : Words) (i : ℕ) (x : Standing) (k r c : ℕ) → i < 32 → Full w → Becomes w i x (written w i x k r c)
-becomes w i x k r c lt full = record { here = stands_here w i x k r c lt full; others = stands_there w i x k r c lt full; keeps = kept_there w i x k r c lt full }
+becomes w i x k r c lt full = record { stands = record { here = stands_here w i x k r c lt full; others = stands_there w i x k r c lt full }; keeps = kept_there w i x k r c lt full }
 
 pub called_becomes : (w : Words) (i : ℕ) (c : Class) → Full w → i < 32 → phases w i ≡ Idle → Becomes w i (called_standing I c) (called w i c)
 called_becomes w i c full lt e = subst (λ x. Becomes w i (called_standing x c) (called w i c)) (idle_is _ e) (becomes w i _ _ _ _ lt full)
@@ -47,7 +46,7 @@ called_class Writing = refl
 pub means_called : (w : Words) (l : List ℕ) (i : ℕ) (c : Class) → Keeps w l → i < 32 → phases w i ≡ Idle → (c ≡ Writing → bars w i ≡ false) → CalledIn (mean w) i c (mean (called w i c))
 means_called w l i c h lt e f =
     let b = called_becomes w i c h.full lt e in
-    call_means phase_of class_of (stands_at w) (stands_at (called w i c)) (bars w) (bars (called w i c)) i c e f b.others (ap phase_of b.here ∙ called_phase c) (ap class_of b.here ∙ called_class c)
+    call_means phase_of class_of (stands_at w) (stands_at (called w i c)) (bars w) (bars (called w i c)) i c _ e f b.stands (called_phase c) (called_class c)
 
 -- who holds
 pub holds_is : (x : Standing) → phase_of x ≡ Holds → (x ≡ ReaderH) ⊎ (x ≡ WriterH)
@@ -132,10 +131,7 @@ class_next WriterH k c n = refl
 pub means_stepped : (w : Words) (l : List ℕ) (i : ℕ) → Keeps w l → i < 32 → steps_from (phases w i) (Unit {0}) ⊥ → Stepped (mean w) i (mean (stepped w i))
 means_stepped w l i h lt m =
     let b : Becomes w i (next_standing (stands_at w i) (kept_by w i) w.completions) (stepped w i) = becomes w i _ _ _ _ lt h.full in
-    step_means phase_of class_of (stands_at w) (stands_at (stepped w i)) (bars w) (bars (stepped w i)) i
-    (subst (Reaches (mean w) i (phases w i)) (sym (ap phase_of b.here)) (reaches h i (stands_at w i) refl m))
-    b.others
-    (subst (λ x. (phase_of x ≢ Idle) → class_of x ≡ classes w i) (sym b.here) (class_next (stands_at w i) _ _))
+    step_means phase_of class_of (stands_at w) (stands_at (stepped w i)) (bars w) (bars (stepped w i)) i _ (reaches h i (stands_at w i) refl m) b.stands (class_next (stands_at w i) _ _)
 
 finished_leaves : (x : Standing) → (x ≡ ReaderH) ⊎ (x ≡ WriterH) → (phase_of (finished_standing x) ≡ Leaves) × (class_of (finished_standing x) ≡ class_of x)
 finished_leaves x (inl e) = (ap (λ y. phase_of (finished_standing y)) e, ap (λ y. class_of (finished_standing y)) e ∙ sym (ap class_of e))
@@ -145,4 +141,4 @@ pub means_finished : (w : Words) (l : List ℕ) (i : ℕ) → Keeps w l → i < 
 means_finished w l i h lt e =
     let b : Becomes w i (finished_standing (stands_at w i)) (finished w i) = becomes w i _ _ _ _ lt h.full in
     let f = finished_leaves (stands_at w i) (holds_is _ e) in
-    finish_means phase_of class_of (stands_at w) (stands_at (finished w i)) (bars w) (bars (finished w i)) i e b.others (ap phase_of b.here ∙ f.0) (ap class_of b.here ∙ f.1)
+    finish_means phase_of class_of (stands_at w) (stands_at (finished w i)) (bars w) (bars (finished w i)) i _ e b.stands f.0 f.1

@@ -94,10 +94,10 @@ pub record Others (s t : TicketLock) (f g : ℕ → ℕ) (i : ℕ) : Type 0 wher
 
 pub goes_others : (s t : TicketLock) (f g : ℕ → ℕ) (i : ℕ) → i < 32 → Goes ticket s f i t g → Others s t f g i
 goes_others s t f g i lt (rests e q m) = record { slot = lt; stand = λ x n. ap (λ y. stands_at y.words x) q; keep = λ x n. ap (λ y. kept_by y.words x) q; left = m.others }
-goes_others s t f g i lt (calls c m l) = let b = calls_becomes s i c t lt m in record { slot = lt; stand = b.others; keep = b.keeps; left = l.others }
-goes_others s t f g i lt (steps m q) = let b = steps_becomes s i t lt m in record { slot = lt; stand = b.others; keep = b.keeps; left = λ x n. ap (λ y. y x) q }
+goes_others s t f g i lt (calls c m l) = let b = calls_becomes s i c t lt m in record { slot = lt; stand = b.stands.others; keep = b.keeps; left = l.others }
+goes_others s t f g i lt (steps m q) = let b = steps_becomes s i t lt m in record { slot = lt; stand = b.stands.others; keep = b.keeps; left = λ x n. ap (λ y. y x) q }
 goes_others s t f g i lt (works e q z o m) = record { slot = lt; stand = λ x n. ap (λ y. stands_at y.words x) q; keep = λ x n. ap (λ y. kept_by y.words x) q; left = m.others }
-goes_others s t f g i lt (finishes m z l) = let b = finishes_becomes s i t lt m in record { slot = lt; stand = b.others; keep = b.keeps; left = l.others }
+goes_others s t f g i lt (finishes m z l) = let b = finishes_becomes s i t lt m in record { slot = lt; stand = b.stands.others; keep = b.keeps; left = l.others }
 
 pub same_load : {s t : TicketLock} {f g : ℕ → ℕ} {i : ℕ} → Others s t f g i → (x : ℕ) → (x ≡ i → ⊥) → load t g x ≡ load s f x
 same_load {s} {t} {f} {g} o x n = ap (λ y. weight y (g x)) (o.stand x n) ∙ ap (weight (stands_at s.words x)) (o.left x n)
@@ -291,12 +291,12 @@ goes_fine s t f g i j lt sm a b z (rests e q m) =
     still (goes_others s t f g i lt (rests e q m)) (ap line_of q) (ap leaves d) (ap leaves h) (omega arith) (λ y w. absurd (in_line_of s i I d refl w))
 goes_fine s t f g i j lt sm a b z (calls c m l) =
     let d = idle_is _ m.idle in
-    let h = (calls_becomes s i c t lt m).here in
+    let h = (calls_becomes s i c t lt m).stands.here in
     let k = called_light c (g i) in
     let u = ap (λ x. weight x (f i)) d in
     let v = ap (λ x. weight x (g i)) h ∙ k.0 in
     still (goes_others s t f g i lt (calls c m l)) m.same (ap leaves d) (ap leaves h ∙ k.1) (omega arith) (λ y w. absurd (in_line_of s i I d refl w))
-goes_fine s t f g i j lt sm a b z (steps m q) = step_fine (goes_others s t f g i lt (steps m q)) sm a b (stands_at s.words i) refl m.moves (steps_becomes s i t lt m).here m.arrived
+goes_fine s t f g i j lt sm a b z (steps m q) = step_fine (goes_others s t f g i lt (steps m q)) sm a b (stands_at s.words i) refl m.moves (steps_becomes s i t lt m).stands.here m.arrived
 goes_fine s t f g i j lt sm a b z (works e q y o m) =
     let d = holds_is _ e in
     let h = ap (λ y. stands_at y.words i) q in
@@ -306,7 +306,7 @@ goes_fine s t f g i j lt sm a b z (works e q y o m) =
     still (goes_others s t f g i lt (works e q y o m)) (ap line_of q) k.1 (ap leaves h ∙ k.1) (omega arith) (λ w c. (λ r. absurd (let p = ap (phases s) r in cc), omega arith))
 goes_fine s t f g i j lt sm a b z (finishes m y l) =
     let d = holds_is _ m.holds in
-    let h = (finishes_becomes s i t lt m).here in
+    let h = (finishes_becomes s i t lt m).stands.here in
     let k = holding_load _ (f i) d in
     let u = k.0 in
     let n : j ≡ i → ⊥ = λ r. absurd (let p = ap (phases s) r in let c = m.holds in cc) in

@@ -29,7 +29,7 @@ free_holds s j z (inr e) =
 own_turn : (s t : TicketLock) (f g : ℕ → ℕ) (j : ℕ) → j < 32 → phases s j ≡ Waits → phases t j ≡ Waits → free s j ≡ true → Goes ticket s f j t g → ⊥
 own_turn s t f g j lt a b z (rests e q m) = absurd (cc)
 own_turn s t f g j lt a b z (calls c m l) = absurd (let e = m.idle in cc)
-own_turn s t f g j lt a b z (steps m q) = absurd (let e = ap phase_of (steps_becomes s j t lt m).here ∙ free_holds s j z (waits_is _ a) in cc)
+own_turn s t f g j lt a b z (steps m q) = absurd (let e = ap phase_of (steps_becomes s j t lt m).stands.here ∙ free_holds s j z (waits_is _ a) in cc)
 own_turn s t f g j lt a b z (works e q y o m) = absurd (cc)
 own_turn s t f g j lt a b z (finishes m y l) = absurd (let e = m.holds in cc)
 
@@ -200,7 +200,7 @@ last_step : (s t : TicketLock) (i : ℕ) → i < 32 → Steps s i t → Going ti
 last_step s t i lt m a = by_standing (stands_at s.words i) refl
   where
     b : stands_at t.words i ≡ next_standing (stands_at s.words i) (kept_by s.words i) s.words.completions
-    b = (steps_becomes s i t lt m).here
+    b = (steps_becomes s i t lt m).stands.here
 
     going : (x : Standing) → stands_at s.words i ≡ x → (phase_of x ≡ Holds) ⊎ (phase_of x ≡ Leaves)
     going x e = subst (λ y. (phase_of y ≡ Holds) ⊎ (phase_of y ≡ Leaves)) e a
@@ -235,7 +235,7 @@ own_out s t f g i lt a b (works e q y o m) =
 own_out s t f g i lt a b (finishes m y l) =
     let h = holds_is _ m.holds in
     let u = (holding_load _ (f i) h).0 in
-    let v = ap (λ x. weight x (g i)) (finishes_becomes s i t lt m).here ∙ finished_load _ (g i) h in
+    let v = ap (λ x. weight x (g i)) (finishes_becomes s i t lt m).stands.here ∙ finished_load _ (g i) h in
     omega arith
 
 out : (s t : TicketLock) (f g : ℕ → ℕ) (i j : ℕ) → Going ticket s j → Going ticket t j → Turns ticket longest_hold s f i t g → Out s t f g i j

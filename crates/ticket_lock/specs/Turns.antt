@@ -83,4 +83,4 @@ turn_at h i WriterH e m p = absurd m
 pub in_turn : (w : Words) (l : List ℕ) (i : ℕ) → Keeps w l → i < 32 → steps_from (phases w i) (Unit {0}) ⊥ → phases (stepped w i) i ≡ Holds → Turn (classes w i) (classes w) i (arrives (phases w i) i l)
 in_turn w l i h lt m p =
     let b : Becomes w i (next_standing (stands_at w i) (kept_by w i) w.completions) (stepped w i) = becomes w i _ _ _ _ lt h.full in
-    turn_at h i (stands_at w i) refl m (sym (ap phase_of b.here) ∙ p)
+    turn_at h i (stands_at w i) refl m (sym (ap phase_of b.stands.here) ∙ p)
