@@ -1,2 +1,5 @@
+pub mod Lines
 pub mod Lock
 pub mod Standings
+pub mod Tables
+pub mod Totals

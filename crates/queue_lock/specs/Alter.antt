@@ -12,7 +12,7 @@ use Rattle.queue_lock.specs.Places.{pos}
 use Rattle.queue_lock.specs.Config.{Config, upd}
 use Rattle.queue_lock.specs.Invariant.{Inv, Own, Front, Alone, Act, In, Waits, Behind, Owed, Next, Tail, owes, admitted, only, share_of, share, next_share}
 use Rattle.queue_lock.specs.Shares.{next_share_same}
-use Rattle.queue_lock.specs.Sums.{total_one}
+use Rattle.lined_lock.specs.Totals.{total_one}
 use Rattle.queue_lock.specs.Lasts as last
 
 -- only the record of slot i and the count change

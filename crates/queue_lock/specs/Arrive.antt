@@ -1,5 +1,5 @@
 -- A called slot arrives: it writes its record, becomes the tail, and stands at the end of the line.
-use Rattle.std.specs.Prelude.{◌≡◌, ℕ, suc, ◌<◌, Bool, true, false, cond, [], ◌∷◌, ◌++◌, length, Some, None, Option, ◌≢◌, nat_lt}
+use Rattle.std.specs.Prelude.{is_some, ◌≡◌, ℕ, suc, ◌<◌, Bool, true, false, cond, [], ◌∷◌, ◌++◌, length, Some, None, Option, ◌≢◌, nat_lt}
 use Rattle.std.proofs.Math.Path.{refl, sym, ap, subst}
 use Rattle.std.proofs.Common.{◌∙◌}
 use Rattle.std.proofs.Math.Logic.{inl, inr}
@@ -13,16 +13,13 @@ use Rattle.queue_words.specs.declared.record.Record.{Record}
 use Rattle.queue_lock.specs.Sets as is
 use Rattle.queue_lock.specs.Places.{pos}
 use Rattle.queue_lock.specs.Config.{Config, upd}
-use Rattle.queue_lock.specs.Invariant.{Inv, Own, Front, Alone, Act, In, Waits, Behind, Owed, Next, Tail, has, owes, admitted, only, share_of, share, AllAct, next_share, one_if}
+use Rattle.queue_lock.specs.Invariant.{Inv, Own, Front, Alone, Act, In, Waits, Behind, Owed, Next, Tail, owes, admitted, only, share_of, share, AllAct, next_share, one_if}
 use Rattle.queue_lock.specs.Every.{implies, apart}
 use Rattle.queue_lock.specs.Facts as fact
 use Rattle.queue_lock.specs.PlacesInLine.{pos_le, pos_joined, pos_joined_in, pos_joined_out, length_joined, distinct_joined}
 use Rattle.queue_lock.specs.Shares.{owing_writer, share_apart}
-use Rattle.queue_lock.specs.Sums.{total_same}
+use Rattle.lined_lock.specs.Totals.{total_below}
 use Rattle.queue_lock.specs.Alter as alter
-
-some_inj : (n m : ℕ) → Some n ≡ Some m → n ≡ m
-some_inj n m e = cc
 
 abbrev pub arrived : Config → ℕ → Record → Config
 arrived w i x = record { at = upd w.at i x; tail = Some i; next_writer = w.next_writer; reader_count = w.reader_count; line = w.line ++ (i ∷ []) }
@@ -217,7 +214,7 @@ module _ (w : Config) (i : ℕ) (x : Record) (v : Inv w) (lt : i < 32) (a : Arri
   -- D2 and D3 of an owed slot
   owed : (p s : ℕ) → owes (f.at p) ≡ true → (f.at p).next ≡ Some s → Owed p (f.at p) (f.at s) × (w.next_writer ≢ Some s) × Next f p s
   owed p s h q = elim (cases_eq p i) [
-    | inl z ↦ absurd (fact.nobody x.next (ap has (from_here (λ y. y.next ≡ Some s) p z q)) a.next)
+    | inl z ↦ absurd (fact.nobody x.next (ap is_some (from_here (λ y. y.next ≡ Some s) p z q)) a.next)
     | inr d ↦
         let g = from_there (λ y. owes y ≡ true) p d h in
         let k = from_there (λ y. y.next ≡ Some s) p d q in
@@ -285,16 +282,16 @@ module _ (w : Config) (i : ℕ) (x : Record) (v : Inv w) (lt : i < 32) (a : Arri
         let z = v.asked t y k m (from_there (λ j. is.wanting j.standing ≡ true) y b g) in
         (to_there (λ j. is.askable j.standing ≡ true) y b z.0, elim z.1 [ inl c ↦ inl (alone y c) | inr c ↦ inr (to_there (λ j. is.asking_first j.standing ≡ true) t d c.0, c.1) ]);
     behind = λ s p u q. (unlinked s p u q).1;
-    behind_tail = λ s p u q k. (unlinked s p u q).2 (sym (some_inj i p k));
+    behind_tail = λ s p u q k. (unlinked s p u q).2 (sym (fact.some_inj i p k));
     behind_other = λ s u q. (unlinked s s u q).0 refl;
     owed = λ p s h q. (owed p s h q).0;
     owed_unnamed = λ p s h q. (owed p s h q).1;
     pairs = λ p s q. elim q.1 [ inl h ↦ (unlinked s p h q.0).3 | inr z ↦ (owed p s z.1 z.0).2 ];
-    tailed = λ t q. subst (Tail f) (some_inj i t q) (record { next = to_here (λ y. y.next ≡ None) i refl a.next; behind = to_here (λ y. y.state.successor ≡ Nobody) i refl a.behind; place = inl (let l = len in let p = last_place in omega arith) });
-    untailed = λ q. let j : ◌≡◌ {A = ℕ} 0 1 = cc in absurd (omega arith);
+    tailed = λ t q. subst (Tail f) (fact.some_inj i t q) (record { next = to_here (λ y. y.next ≡ None) i refl a.next; behind = to_here (λ y. y.state.successor ≡ Nobody) i refl a.behind; place = inl (let l = len in let p = last_place in omega arith) });
+    untailed = λ q. absurd (cc);
     one_leaves = λ t u h d.
         let b = not_here is.writeway a.writeway t h in
         let g = from_there (λ y. is.writeway y.standing ≡ true) t b h in
         (split (λ y. is.writeway y.standing ≡ false) u (λ _. a.writeway) (λ _. (v.one_leaves t u g d).0), split (λ y. is.readway y.standing ≡ false) u (λ _. a.readway) (λ _. (v.one_leaves t u g d).1));
-    counted = v.counted ∙ sym (total_same (share_of w) (share_of f) 32 shares);
+    counted = v.counted ∙ sym (total_below (share_of w) (share_of f) 32 (λ j _. shares j));
   }

@@ -1,5 +1,5 @@
 -- A configuration: the words by slot, and the line beside them.
-use Rattle.std.specs.Prelude.{ℕ, zero, suc, ◌+◌, cond, List, Option, ◌==◌}
+use Rattle.std.specs.Prelude.{◌≡◌, length, ℕ, cond, List, Option, ◌==◌}
 use Rattle.queue_words.specs.Steps.{slot}
 use Rattle.queue_words.specs.declared.record.Record.{Record}
 use Rattle.queue_words.specs.declared.words.Words.{Words}
@@ -20,7 +20,6 @@ config w line = record { at = slot w; tail = w.tail; next_writer = w.next_writer
 abbrev pub upd : (ℕ → Record) → ℕ → Record → ℕ → Record
 upd f i e j = cond (j == i) e (f j)
 
--- the sum over the slots below n
-unfoldable pub total : (ℕ → ℕ) → ℕ → ℕ
-total f zero = 0
-total f (suc n) = f n + total f n
+-- the table has a record for each of the 32 slots
+abbrev pub Full : Words → Type 0
+Full w = length w.table.slots ≡ 32

@@ -10,7 +10,7 @@ use Rattle.queue_lock.specs.Move.{moved, Unlinked, relabel, was_unlinked}
 use Rattle.queue_lock.specs.Plain.{plain}
 use Rattle.queue_lock.specs.Rows.{row, row_of}
 use Rattle.queue_lock.specs.Shares.{share_none}
-use Rattle.queue_lock.specs.Sums.{total_at}
+use Rattle.lined_lock.specs.Totals.{total_at}
 
 module _ (w : Config) (i : ℕ) (v : Inv w) (lt : i < 32) where
   -- the reader that a writer is about to wake

@@ -1,10 +1,11 @@
 -- E10: a reader that left wakes its writer, and is idle.
+use Rattle.std.specs.Prelude.{is_some}
 use Rattle.std.proofs.Common.{◌≡◌, ℕ, ◌+◌, ◌<◌, true, false, Some, sym, refl, ap, ◌∙◌, subst, inl, inr, arith}
 use Rattle.std.proofs.lemmas.Bool.{cases_eq, both_ways, lt-ltb}
 use Rattle.queue_words.specs.declared.standing.Standing.TheVariants.{E10, I}
 use Rattle.queue_lock.specs.Sets as is
 use Rattle.queue_lock.specs.Config.{Config}
-use Rattle.queue_lock.specs.Invariant.{Inv, Alone, In, Waits, has, owes, share_of, share, next_share}
+use Rattle.queue_lock.specs.Invariant.{Inv, Alone, In, Waits, owes, share_of, share, next_share}
 use Rattle.queue_lock.specs.Rows.{Row, row, row_of}
 use Rattle.queue_lock.specs.Lasts as last
 use Rattle.queue_words.specs.Records.{freed}
@@ -86,7 +87,7 @@ module _ (w : Config) (i : ℕ) (v : Inv w) (lt : i < 32) (e : (w.at i).standing
     on = to_there w i I w.reader_count (λ y. is.on y.standing ≡ false) x apart_x (apart is.is_waiting is.is_on refl (w.at x).standing waits.standing);
     front = last.alone_front lone;
     alone = λ _. lone;
-    unnamed = λ z. fact.nobody w.next_writer (ap has z) (v.woken_unnamed i o.waking);
+    unnamed = λ z. fact.nobody w.next_writer (ap is_some z) (v.woken_unnamed i o.waking);
     woken = λ t h k. elim (cases_eq t i) [
       | inl z ↦ both_ways _ (row I).waking (at_here w i I w.reader_count (λ y. is.waking y.standing ≡ true) t z h)
       | inr d ↦ d (v.one_wakes t i (at_there w i I w.reader_count (λ y. is.waking y.standing ≡ true) t d h) o.waking)

@@ -1,10 +1,11 @@
 -- E2: a reader in the way finds itself the tail, and takes itself off it; else it goes on to wait for its next.
+use Rattle.std.specs.Prelude.{is_some}
 use Rattle.std.proofs.Common.{◌≡◌, ℕ, ◌+◌, ◌<◌, true, false, Some, None, sym, refl, ap, ◌∙◌, inl, inr, arith}
 use Rattle.std.proofs.lemmas.Bool.{cases_eq, both_ways, lt-ltb, cases_Bool}
 use Rattle.queue_words.specs.declared.standing.Standing.TheVariants.{E2, E6}
 use Rattle.queue_lock.specs.Sets as is
 use Rattle.queue_lock.specs.Config.{Config}
-use Rattle.queue_lock.specs.Invariant.{Inv, Tail, has, share_of, share, AllAct}
+use Rattle.queue_lock.specs.Invariant.{Inv, Tail, share_of, share, AllAct}
 use Rattle.queue_lock.specs.Rows.{Row, row, row_of}
 use Rattle.queue_lock.specs.Facts as fact
 use Rattle.queue_lock.specs.Shares.{owing_kept}
@@ -67,8 +68,8 @@ module _ (u : Config) (i : ℕ) (iv : Inv u) (lt : i < 32) (e : (u.at i).standin
         linking = λ x _ h z a b. grind (arith, o);
         owing = owing_kept _ _ _ _ (λ _ q. absurd (both_ways _ n.owing_w q)) (λ _ q. absurd (both_ways _ n.owing_r q)) (λ _ q. absurd (both_ways _ n.owing_n q));
         owed = λ p _ h z. grind (arith, o, v.owed p i h z);
-        ending_w = λ q. absurd (fact.nobody None (ap has q) refl);
-        ending_r = λ q. absurd (fact.nobody None (ap has q) refl);
+        ending_w = λ q. absurd (fact.nobody None (ap is_some q) refl);
+        ending_r = λ q. absurd (fact.nobody None (ap is_some q) refl);
       }
 
   count : w.reader_count + share_of w i ≡ w.reader_count + share_of (moved w i E6 w.reader_count) i

@@ -25,10 +25,10 @@ module _ (u : Config) (i : ℕ) (iv : Inv u) (lt : i < 32) (e : (u.at i).standin
 
   names : Names u None
   names = record {
-    next = λ y h. let k : ◌≡◌ {A = ℕ} 0 1 = cc in absurd (omega arith);
+    next = λ y h. absurd (cc);
     waking = λ t h. refl;
     asking = λ t y h g k a. elim a [ inl b ↦ inl b | inr b ↦ let j : x ≡ y = cc (z, b.1) in inl (subst (Alone u) j alone) ];
-    owed = λ p s h g k. let j : ◌≡◌ {A = ℕ} 0 1 = cc in omega arith;
+    owed = λ p s h g k. cc;
   }
 
   abbrev w : Config
@@ -54,7 +54,7 @@ module _ (u : Config) (i : ℕ) (iv : Inv u) (lt : i < 32) (e : (u.at i).standin
         waking = record {
           slot = λ _ y k. let j : x ≡ y = cc (q, k) in subst (λ n. (n ≡ i → ⊥) × (Waits (w.at n) × Alone w n)) j (λ d. both_ways _ o.waiting (subst (λ n. is.waiting (w.at n).standing ≡ true) d waits.standing), (waits, record { inside = alone.inside; first = alone.first; clear = alone.clear; past = alone.past }));
           none = λ _. refl;
-          one = λ _ t h. let j : ◌≡◌ {A = ℕ} 0 1 = cc (iv.woken_unnamed t h, z) in absurd (omega arith);
+          one = λ _ t h. absurd (cc (iv.woken_unnamed t h, z));
         };
         woken = λ t _ h z. grind (arith, o, (v.woken t i h z).0);
         waiting = λ z. grind (arith, o, (v.named i z).0);

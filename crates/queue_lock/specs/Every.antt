@@ -1,28 +1,16 @@
 -- A fact about every standing, from one computed test.
+use Rattle.std.specs.List.{list_all}
 use Rattle.std.specs.Prelude.{◌≡◌, ℕ, zero, suc, ◌<◌, Bool, true, false, cond, List, [], ◌∷◌, length, get_or, ◌==◌, slice_index_or, refl}
 use Rattle.std.proofs.Common.{sym, ap, subst, ◌∙◌, inl, inr, arith, lit<}
 use Rattle.queue_words.specs.declared.standing.Standing.{Standing}
 use Rattle.queue_words.specs.declared.standing.Standing.TheVariants.{I, W1, W2, W3, W4, W5, W6, W7, W8, WriterH, V1, V2, V3, V4, V5, V6, R1, R2, R3, R4, R5, R6, R7, R8, R9, R10, R11, R12, R13, ReaderH, E1, E2, E3, E4, E5, E6, E7, E8, E9, E10}
 use Rattle.queue_lock.specs.Sets.{number, standings, among}
-use Rattle.std.proofs.lemmas.Bool.{cases_Bool, eqb-true, cond-false}
+use Rattle.std.proofs.lemmas.Bool.{and_parts, cases_Bool, eqb-true, cond-false, false≢true}
 
-abbrev pub every : (Standing → Bool) → List Standing → Bool
-every f [] = true
-every f (x ∷ xs) = cond (f x) (every f xs) false
-
-bad : false ≡ true → ⊥
-bad z = let q : ◌≡◌ {A = ℕ} 0 1 = cc in omega arith
-
-first : (f : Standing → Bool) (x : Standing) (xs : List Standing) → every f (x ∷ xs) ≡ true → f x ≡ true
-first f x xs e = elim (f x) as (λ b. cond b (every f xs) false ≡ true → b ≡ true) [ true ↦ λ _. refl | false ↦ λ z. z ] e
-
-rest : (f : Standing → Bool) (x : Standing) (xs : List Standing) → every f (x ∷ xs) ≡ true → every f xs ≡ true
-rest f x xs e = elim (f x) as (λ b. cond b (every f xs) false ≡ true → every f xs ≡ true) [ true ↦ λ z. z | false ↦ λ z. absurd (bad z) ] e
-
-every_at : (f : Standing → Bool) (xs : List Standing) (i : ℕ) → every f xs ≡ true → i < length xs → f (slice_index_or xs i I) ≡ true
+every_at : (f : Standing → Bool) (xs : List Standing) (i : ℕ) → list_all f xs ≡ true → i < length xs → f (slice_index_or xs i I) ≡ true
 every_at f [] i e h = absurd (omega arith)
-every_at f (x ∷ xs) zero e h = first f x xs e
-every_at f (x ∷ xs) (suc i) e h = every_at f xs i (rest f x xs e) (omega arith)
+every_at f (x ∷ xs) zero e h = (and_parts _ _ e).0
+every_at f (x ∷ xs) (suc i) e h = every_at f xs i (and_parts (f x) _ e).1 (omega arith)
 
 found : (s : Standing) → slice_index_or standings (number s) I ≡ s
 found I = refl
@@ -114,21 +102,21 @@ by_number s n e = sym (found s) ∙ ap (λ k. get_or standings k I) e
 pub same_number : (s t : Standing) → number s ≡ number t → s ≡ t
 same_number s t e = by_number s (number t) e ∙ found t
 
-pub for_all : (f : Standing → Bool) → every f standings ≡ true → (s : Standing) → f s ≡ true
+pub for_all : (f : Standing → Bool) → list_all f standings ≡ true → (s : Standing) → f s ≡ true
 for_all f e s = subst (λ x. f x ≡ true) (found s) (every_at f standings (number s) e (low s))
 
 -- standings with the first property have the second
-pub implies : (f g : Standing → Bool) → every (λ s. cond (f s) (g s) true) standings ≡ true → (s : Standing) → f s ≡ true → g s ≡ true
-implies f g e s h = elim (f s) as (λ b. cond b (g s) true ≡ true → b ≡ true → g s ≡ true) [ true ↦ λ z _. z | false ↦ λ _ z. absurd (bad z) ] (for_all (λ x. cond (f x) (g x) true) e s) h
+pub implies : (f g : Standing → Bool) → list_all (λ s. cond (f s) (g s) true) standings ≡ true → (s : Standing) → f s ≡ true → g s ≡ true
+implies f g e s h = elim (f s) as (λ b. cond b (g s) true ≡ true → b ≡ true → g s ≡ true) [ true ↦ λ z _. z | false ↦ λ _ z. absurd (false≢true z) ] (for_all (λ x. cond (f x) (g x) true) e s) h
 
 -- no standing has both
-pub apart : (f g : Standing → Bool) → every (λ s. cond (f s) (cond (g s) false true) true) standings ≡ true → (s : Standing) → f s ≡ true → g s ≡ false
+pub apart : (f g : Standing → Bool) → list_all (λ s. cond (f s) (cond (g s) false true) true) standings ≡ true → (s : Standing) → f s ≡ true → g s ≡ false
 apart f g e s h = let k = implies f (λ x. cond (g x) false true) e s h in elim (g s) as (λ b. cond b false true ≡ true → b ≡ false) [ true ↦ λ z. sym z | false ↦ λ _. refl ] k
 
 -- what holds of all in a list holds of one among them
-pub every_among : (f : Standing → Bool) (xs : List Standing) (s : Standing) → every f xs ≡ true → among xs s ≡ true → f s ≡ true
-every_among f [] s e h = absurd (bad h)
+pub every_among : (f : Standing → Bool) (xs : List Standing) (s : Standing) → list_all f xs ≡ true → among xs s ≡ true → f s ≡ true
+every_among f [] s e h = absurd (false≢true h)
 every_among f (x ∷ xs) s e h = elim (cases_Bool (number s == number x)) [
-  | inl q ↦ subst (λ y. f y ≡ true) (sym (same_number s x (eqb-true _ _ q))) (first f x xs e)
-  | inr q ↦ every_among f xs s (rest f x xs e) (sym (cond-false (number s == number x) true (among xs s) q) ∙ h)
+  | inl q ↦ subst (λ y. f y ≡ true) (sym (same_number s x (eqb-true _ _ q))) (and_parts _ _ e).0
+  | inr q ↦ every_among f xs s (and_parts (f x) _ e).1 (sym (cond-false (number s == number x) true (among xs s) q) ∙ h)
 ]

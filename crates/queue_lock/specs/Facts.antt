@@ -1,19 +1,21 @@
 -- Small consequences of the invariant: what stands in line, the frontier, and an empty count.
-use Rattle.std.specs.Prelude.{◌≡◌, ℕ, suc, ◌<◌, ◌≤◌, Bool, true, false, cond, ◌⊎◌, Some, None, Option, ◌≢◌, refl}
+use Rattle.std.specs.List.{list_all}
+use Rattle.std.specs.Prelude.{is_some, ◌≡◌, ℕ, suc, ◌<◌, ◌≤◌, Bool, true, false, cond, ◌⊎◌, Some, None, Option, ◌≢◌, refl}
 use Rattle.std.proofs.Common.{sym, ap, subst, ◌∙◌, inl, inr, arith}
 use Rattle.std.proofs.lemmas.Bool.{both_ways, cases_order, ltb-true, lt-ltb, cases_Bool, cases_lt}
 use Rattle.queue_words.specs.declared.standing.Standing.{Standing}
 use Rattle.queue_words.specs.declared.standing.Standing.TheVariants.{I}
+use Rattle.lock.specs.declared.words.Class.{Class}
 use Rattle.lock.specs.declared.words.Class.TheVariants.{Reading, Writing}
 use Rattle.queue_words.specs.declared.record.Successor.TheVariants.{Reader, Writer}
 use Rattle.queue_words.specs.declared.record.Record.{Record}
 use Rattle.queue_lock.specs.Sets as is
 use Rattle.queue_lock.specs.Places.{pos}
 use Rattle.queue_lock.specs.Config.{Config}
-use Rattle.queue_lock.specs.Invariant.{Inv, Front, Alone, Act, In, Next, has, owes, Pair, share_of, share, next_share}
-use Rattle.queue_lock.specs.Every.{every, for_all, implies, apart}
+use Rattle.queue_lock.specs.Invariant.{Inv, Front, Alone, Act, In, Next, owes, Pair, share_of, share, next_share}
+use Rattle.queue_lock.specs.Every.{for_all, implies, apart}
 use Rattle.queue_lock.specs.PlacesInLine.{pos_inj, first_of}
-use Rattle.queue_lock.specs.Sums.{total_at}
+use Rattle.lined_lock.specs.Totals.{total_at}
 use Rattle.queue_lock.specs.Sets.{standings}
 use Rattle.queue_lock.specs.Shares.{owing_by, share_none}
 
@@ -40,7 +42,7 @@ pub blocked_not_act : (e : Record) → e.state.blocked ≡ true → Act e → �
 blocked_not_act e h a = both_ways e.state.blocked a.free h
 
 pub writer_not_act : (e : Record) → e.class ≡ Writing → Act e → ⊥
-writer_not_act e h a = let z : ◌≡◌ {A = ℕ} 0 1 = cc (h, a.reads) in omega arith
+writer_not_act e h a = cc (h, a.reads)
 
 -- an active reader has a share
 act_label : (l : Standing) → is.lining l ≡ true → is.on l ≡ false → is.writing l ≡ false → cond (is.counts_two l) true (cond (is.counts_one l) true (is.sleeping_r l)) ≡ true
@@ -109,12 +111,19 @@ pub one_owner : (w : Config) → Inv w → (p q s : ℕ) → owes (w.at p) ≡ t
 one_owner w v p q s h k a b = cc ((v.owed p s h a).pred, (v.owed q s k b).pred)
 
 -- a slot that is asked of has a value
-pub the_slot : (o : Option ℕ) → has o ≡ true → (n : ℕ) × (o ≡ Some n)
+pub the_slot : (o : Option ℕ) → is_some o ≡ true → (n : ℕ) × (o ≡ Some n)
 the_slot (Some n) h = (n, refl)
-the_slot None h = let z : ◌≡◌ {A = ℕ} 0 1 = cc in absurd (omega arith)
+the_slot None h = absurd (cc)
+
+pub some_inj : (n m : ℕ) → Some n ≡ Some m → n ≡ m
+some_inj n m e = cc
+
+pub class_cases : (c : Class) → (c ≡ Reading) ⊎ (c ≡ Writing)
+class_cases Reading = inl refl
+class_cases Writing = inr refl
 
 pub one_class : (e : Record) → e.class ≡ Reading → e.class ≢ Writing
-one_class e a b = let z : ◌≡◌ {A = ℕ} 0 1 = cc (a, b) in omega arith
+one_class e a b = cc (a, b)
 
 -- the slot directly behind an active reader at the front is at the front
 pub front_next : (w : Config) (i s : ℕ) → Front w i → Act (w.at i) → pos w.line s ≡ suc (pos w.line i) → In w s → Front w s
@@ -147,8 +156,8 @@ pub askable_writing : (l : Standing) → is.askable l ≡ true → is.writing l 
 unfolding is.askable is.writing
 askable_writing l h = implies is.is_askable is.is_writing refl l h
 
-pub nobody : (o : Option ℕ) → has o ≡ true → o ≢ None
-nobody o h e = both_ways true (sym h ∙ ap has e) refl
+pub nobody : (o : Option ℕ) → is_some o ≡ true → o ≢ None
+nobody o h e = both_ways true (sym h ∙ ap is_some e) refl
 
 -- an unlinked slot is blocked and in line
 pub unlinked_on : (l : Standing) → is.unlinked l ≡ true → is.on l ≡ true
@@ -199,7 +208,7 @@ unfolding is.writeway is.writing
 writeway_writing l h = implies is.is_writeway is.is_writing refl l h
 
 pub one_after : (e : Record) → e.state.successor ≡ Writer → e.state.successor ≢ Reader
-one_after e a b = let z : ◌≡◌ {A = ℕ} 0 1 = cc (a, b) in omega arith
+one_after e a b = cc (a, b)
 
 pub not_fetching : (l : Standing) → is.followed l ≡ true → is.fetching l ≡ false
 unfolding is.followed is.fetching
@@ -209,7 +218,7 @@ pub not_handing : (l : Standing) → is.followed l ≡ true → is.handing l ≡
 unfolding is.followed is.handing
 not_handing l h = apart is.is_followed is.is_handing refl l h
 
-split_line : (f : Standing → Bool) → every (λ l. cond (f l) (cond (is.is_lining l) true (cond (is.is_writeway l) true (is.is_readway l))) true) standings ≡ true → (l : Standing) → f l ≡ true → (is.lining l ≡ true) ⊎ ((is.writeway l ≡ true) ⊎ (is.readway l ≡ true))
+split_line : (f : Standing → Bool) → list_all (λ l. cond (f l) (cond (is.is_lining l) true (cond (is.is_writeway l) true (is.is_readway l))) true) standings ≡ true → (l : Standing) → f l ≡ true → (is.lining l ≡ true) ⊎ ((is.writeway l ≡ true) ⊎ (is.readway l ≡ true))
 unfolding is.lining is.writeway is.readway
 split_line f t l h = elim (cases_Bool (is.is_lining l)) [
   | inl a ↦ inl a

@@ -15,7 +15,7 @@ use Rattle.lock.specs.Line.{without}
 use Rattle.queue_lock.specs.Facts as fact
 use Rattle.queue_lock.specs.PlacesInLine.{left_cases, distinct_left, length_left, pos_left_same}
 use Rattle.queue_lock.specs.Shares.{owing_kept, next_share_same}
-use Rattle.queue_lock.specs.Sums.{total_same}
+use Rattle.lined_lock.specs.Totals.{total_below}
 use Rattle.queue_lock.specs.Alter as alter
 
 abbrev pub finished : Config → ℕ → Standing → Config
@@ -251,5 +251,5 @@ module _ (w : Config) (i : ℕ) (v : Inv w) (lt : i < 32) (e : (w.at i).standing
     tailed = t1;
     untailed = λ q. (all_act (v.untailed q).0, clear);
     one_leaves = λ t u h d. absurd (both_ways _ (clear t) h);
-    counted = v.counted ∙ sym (total_same (share_of w) (share_of f) 32 shares);
+    counted = v.counted ∙ sym (total_below (share_of w) (share_of f) 32 (λ j _. shares j));
   }

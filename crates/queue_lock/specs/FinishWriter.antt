@@ -15,7 +15,7 @@ use Rattle.queue_lock.specs.Lasts as last
 use Rattle.queue_lock.specs.Facts as fact
 use Rattle.queue_lock.specs.PlacesInLine.{left_cases, distinct_left, length_left, pos_left_same}
 use Rattle.queue_lock.specs.Shares.{owing_writer, next_share_same}
-use Rattle.queue_lock.specs.Sums.{total_same}
+use Rattle.lined_lock.specs.Totals.{total_below}
 use Rattle.queue_lock.specs.Alter as alter
 use Rattle.queue_lock.specs.Finish.{finished}
 
@@ -203,5 +203,5 @@ module _ (w : Config) (i : ℕ) (v : Inv w) (lt : i < 32) (e : (w.at i).standing
       | inl q ↦ let c : u ≡ i → ⊥ = λ z. d (z ∙ sym q) in (to_there (λ y. is.writeway y.standing ≡ false) u c (alone.clear u), to_there (λ y. is.readway y.standing ≡ false) u c (alone.past u))
       | inr c ↦ absurd (both_ways _ (alone.clear t) (from_there (λ y. is.writeway y.standing ≡ true) t c h))
     ];
-    counted = v.counted ∙ sym (total_same (share_of w) (share_of f) 32 shares);
+    counted = v.counted ∙ sym (total_below (share_of w) (share_of f) 32 (λ j _. shares j));
   }

@@ -1,12 +1,12 @@
 -- X1 over a step: whoever waits for its next to be set still has an unlinked slot behind it.
-use Rattle.std.proofs.Common.{◌≡◌, ℕ, true, cond, ◌⊎◌, Some, None, sym, refl, ap, ◌∙◌, subst, inl, inr, arith}
+use Rattle.std.proofs.Common.{◌≡◌, ℕ, true, cond, ◌⊎◌, Some, None, sym, refl, ap, ◌∙◌, subst, inl, inr}
 use Rattle.std.proofs.lemmas.Bool.{cases_eq}
 use Rattle.queue_words.specs.declared.standing.Standing.{Standing}
 use Rattle.queue_lock.specs.Sets as is
 use Rattle.queue_lock.specs.Config.{Config}
 use Rattle.queue_lock.specs.Tended.{Tended}
 use Rattle.queue_lock.specs.Every.{implies}
-use Rattle.queue_lock.specs.Untouched.{Keeps, kept, none_before, is_some}
+use Rattle.queue_lock.specs.Untouched.{Keeps, kept, none_before, slot_or_not}
 use Rattle.queue_lock.specs.Rows.{Row}
 use Rattle.queue_lock.specs.Tested.{no, gives, lacks}
 
@@ -40,7 +40,7 @@ module _ (w v : Config) (i : ℕ) (g : Tended w) (k : Keeps w.at v.at i) (r : Fo
         | inr d ↦ subst (λ l. is.awaited l ≡ true) (k.others p d).standing h
       ] in
       let n = none_before (kept k p (inl a)) z in
-      elim (is_some w.tail p) [
+      elim (slot_or_not w.tail p) [
         | inl q ↦ elim (r.tail p q h) [ inl y ↦ absurd (t y) | inr y ↦ (i, y) ]
         | inr d ↦ still p z (g.followed p a n d)
       ]
@@ -53,7 +53,7 @@ module _ (w v : Config) (i : ℕ) (a l : Standing) (o : Row (w.at i).standing a)
   -- slot i writes the next of its predecessor
   pub follow_link : v.tail ≡ w.tail → (p : ℕ) → (w.at i).pred ≡ Some p → (v.at p).next ≡ Some i → cond (is.is_awaited l) (is.is_awaited a) true ≡ true → Follow w v i
   follow_link t p q e y = record {
-    unlinked = λ _ m k z. let j : p ≡ m = cc (q, k) in let b : ◌≡◌ {A = ℕ} 0 1 = cc (subst (λ x. (v.at x).next ≡ Some i) j e, z) in absurd (omega arith);
+    unlinked = λ _ m k z. let j : p ≡ m = cc (q, k) in absurd (cc (subst (λ x. (v.at x).next ≡ Some i) j e, z));
     awaited = λ h _. gives n.awaited o.awaited y h;
     tail = λ p q _. inl (t ∙ q);
   }

@@ -7,7 +7,8 @@ use Rattle.queue_words.specs.declared.record.Successor.TheVariants.{Reader}
 use Rattle.queue_words.specs.declared.standing.Standing.{Standing}
 use Rattle.queue_words.specs.declared.standing.Standing.TheVariants.{I, W1, W2, W3, W4, W5, W6, W7, W8, WriterH, V1, V2, V3, V4, V5, V6, R1, R2, R3, R4, R5, R6, R7, R8, R9, R10, R11, R12, R13, ReaderH, E1, E2, E3, E4, E5, E6, E7, E8, E9, E10}
 use Rattle.queue_words.specs.declared.words.Words.{Words}
-use Rattle.queue_lock.specs.View.{Full, full_put}
+use Rattle.queue_lock.specs.Config.{Full}
+use Rattle.queue_lock.specs.View.{full_put}
 
 full_unblock : (w : Words) (o : Option ℕ) → Full w → Full (unblock w o)
 full_unblock w None f = f

@@ -44,7 +44,7 @@ no_writer_or_not class i (x ∷ l) = elim (cases_eq x i) [
 ]
   where
     by_class : (c : Class) → class x ≡ c → pos (x ∷ l) i ≡ suc (pos l i) → pos (x ∷ l) x ≡ 0 → (x ≡ i → ⊥) → NoWriterBefore class i l ⊎ (((y : ℕ) → pos l y < pos l i → class y ≡ Reading) → pos l i < length l → ⊥) → NoWriterBefore class i (x ∷ l) ⊎ (((y : ℕ) → pos (x ∷ l) y < pos (x ∷ l) i → class y ≡ Reading) → pos (x ∷ l) i < length (x ∷ l) → ⊥)
-    by_class Writing c there here d r = inr (λ f _. let z : ◌≡◌ {A = ℕ} 0 1 = cc (f x (omega arith), c) in omega arith)
+    by_class Writing c there here d r = inr (λ f _. cc (f x (omega arith), c))
     by_class Reading c there here d (inl r) = inl (subst (λ b. cond b (Unit {0}) ((class x ≡ Reading) × NoWriterBefore class i l)) (sym (ne_eqb x i d)) (c, r))
     by_class Reading c there here d (inr n) = inr (λ f h. n (λ y k. elim (cases_eq y x) [ inl e ↦ ap class e ∙ c | inr u ↦ let p = pos_there l y x u in f y (omega arith) ]) (omega arith))
 

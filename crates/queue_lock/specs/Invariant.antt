@@ -1,5 +1,5 @@
 -- The invariant of the queue lock, one field for each clause.
-use Rattle.std.specs.Prelude.{◌≡◌, ℕ, suc, ◌<◌, ◌≤◌, Bool, true, false, cond, ◌⊎◌, length, Some, None, Option, ◌≢◌, nat_lt}
+use Rattle.std.specs.Prelude.{is_some, ◌≡◌, ℕ, suc, ◌<◌, ◌≤◌, Bool, true, false, cond, ◌⊎◌, length, Some, None, Option, ◌≢◌, nat_lt}
 use Rattle.queue_words.specs.declared.standing.Standing.{Standing}
 use Rattle.queue_words.specs.declared.standing.Standing.TheVariants.{I}
 use Rattle.lock.specs.declared.words.Class.{Class}
@@ -9,11 +9,8 @@ use Rattle.queue_words.specs.declared.record.Successor.TheVariants.{Nobody, Read
 use Rattle.queue_words.specs.declared.record.Record.{Record}
 use Rattle.queue_lock.specs.Sets as is
 use Rattle.queue_lock.specs.Places.{pos, Distinct}
-use Rattle.queue_lock.specs.Config.{Config, total}
-
-abbrev pub has : Option ℕ → Bool
-has (Some x) = true
-has None = false
+use Rattle.lined_lock.specs.Totals.{total}
+use Rattle.queue_lock.specs.Config.{Config}
 
 -- an active reader
 pub record Act (e : Record) : Type 0 where
@@ -42,9 +39,9 @@ pub record Own (e : Record) : Type 0 where
   pub off : is.off e.standing ≡ true → e.state.blocked ≡ false
   pub wakes : is.wakes e.standing ≡ true → e.state.successor ≡ Reader
   pub names : is.names e.standing ≡ true → e.state.successor ≡ Writer
-  pub linked : is.linked e.standing ≡ true → has e.next ≡ true
-  pub keeps : is.keeps e.standing ≡ true → has e.w ≡ true
-  pub behind : is.unlinked e.standing ≡ true → has e.pred ≡ true
+  pub linked : is.linked e.standing ≡ true → is_some e.next ≡ true
+  pub keeps : is.keeps e.standing ≡ true → is_some e.w ≡ true
+  pub behind : is.unlinked e.standing ≡ true → is_some e.pred ≡ true
 
 abbrev pub admitted : Record → Bool
 admitted e = cond e.state.blocked (is.admitted e.standing) true

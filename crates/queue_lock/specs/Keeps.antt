@@ -15,7 +15,7 @@ use Rattle.queue_words.specs.Steps.{slot, stands_at, stand, called_standing, fin
 use Rattle.queue_words.specs.declared.standing.Standing.{Standing}
 use Rattle.queue_words.specs.declared.standing.Standing.TheVariants.{I, W1, R1, E1, V1, ReaderH, WriterH}
 use Rattle.queue_words.specs.declared.words.Words.{Words}
-use Rattle.queue_lock.specs.Config.{Config, config}
+use Rattle.queue_lock.specs.Config.{Full, Config, config}
 use Rattle.queue_lock.specs.Invariant.{Inv}
 use Rattle.queue_lock.specs.Sets as is
 use Rattle.queue_lock.specs.Lock.{phases, bars}
@@ -32,7 +32,7 @@ use Rattle.queue_lock.specs.Safety.{fresh_inv}
 use Rattle.queue_lock.specs.Standings.{idle_is, holds_is, asking_asks}
 use Rattle.queue_lock.specs.Tending.{turn_tends, call_tends, reader_finish_tends, writer_finish_tends, fresh_tended}
 use Rattle.queue_lock.specs.Turns.{turns}
-use Rattle.queue_lock.specs.View.{Full, full_put, stands, starts}
+use Rattle.queue_lock.specs.View.{full_put, stands, starts}
 
 pub keeps_stepped : (w : Words) (l : List ℕ) (i : ℕ) → Keeps w l → i < 32 → steps_from (phases w i) (Unit {0}) ⊥ → Keeps (stepped w i) (arrives (phases w i) i l)
 keeps_stepped w l i h lt m = record {

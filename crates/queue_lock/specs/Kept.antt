@@ -1,8 +1,9 @@
 -- Every step of a slot, and the call to read, keeps the invariant.
+use Rattle.std.specs.Prelude.{is_some}
 use Rattle.std.proofs.Common.{◌≡◌, ℕ, ◌<◌, sym, refl, ap, subst}
 use Rattle.queue_words.specs.declared.standing.Standing.TheVariants.{I, R1}
 use Rattle.queue_lock.specs.Config.{Config}
-use Rattle.queue_lock.specs.Invariant.{Inv, has}
+use Rattle.queue_lock.specs.Invariant.{Inv}
 use Rattle.queue_lock.specs.Counting as counting
 use Rattle.queue_lock.specs.E10 as at-e10
 use Rattle.queue_lock.specs.E2 as at-e2
@@ -39,7 +40,7 @@ formed v f z k = subst Inv (sym z) k
 
 pub turn_keeps : (w v : Config) (i : ℕ) → i < 32 → Inv w → Turn w i v → Inv v
 turn_keeps w v i lt u (w1_first e q z) = formed v _ z (at-w1.writer_first w i u lt e q)
-turn_keeps w v i lt u (w1_behind e p q z) = formed v _ z (at-w1.writer_behind w i u lt e (ap has q))
+turn_keeps w v i lt u (w1_behind e p q z) = formed v _ z (at-w1.writer_behind w i u lt e (ap is_some q))
 turn_keeps w v i lt u (w2 e z) = formed v _ z (at-w2.kept w i u lt e)
 turn_keeps w v i lt u (w3_zero e q z) = formed v _ z (at-w3.kept_0 w i u lt e q)
 turn_keeps w v i lt u (w3_more e q z) = formed v _ z (at-w3.kept_other w i u lt e)
@@ -61,7 +62,7 @@ turn_keeps w v i lt u (v4_writes e n q c z) = formed v _ z (looks.v4_writes w i 
 turn_keeps w v i lt u (v5 e z) = formed v _ z (counting.v5 w i u lt e)
 turn_keeps w v i lt u (v6 e n q z) = formed v _ z (at-v6.kept w i u lt e n q)
 turn_keeps w v i lt u (r1_first e q z) = formed v _ z (at-w1.reader_first w i u lt e q)
-turn_keeps w v i lt u (r1_behind e p q z) = formed v _ z (at-w1.reader_behind w i u lt e (ap has q))
+turn_keeps w v i lt u (r1_behind e p q z) = formed v _ z (at-w1.reader_behind w i u lt e (ap is_some q))
 turn_keeps w v i lt u (r2 e z) = formed v _ z (at-r2.kept w i u lt e)
 turn_keeps w v i lt u (r3_reads e p q c z) = formed v _ z (looks.r3_reads w i u lt e p q c)
 turn_keeps w v i lt u (r3_writes e p q c z) = formed v _ z (looks.r3_writes w i u lt e p q c)

@@ -1,4 +1,5 @@
 -- Where a step takes its slot, and that no other slot's standing changes.
+use Rattle.std.specs.List.{list_all}
 use Rattle.std.specs.Prelude.{◌≡◌, ℕ, ◌+◌, ◌-◌, Bool, true, List, [], ◌∷◌, Some, None, ◌≢◌, refl}
 use Rattle.std.proofs.Common.{sym, ap, subst, ◌∙◌}
 use Rattle.lock.specs.declared.words.Class.TheVariants.{Reading, Writing}
@@ -12,7 +13,7 @@ use Rattle.queue_lock.specs.Sets.{standings, among}
 use Rattle.queue_lock.specs.Alter as alter
 use Rattle.queue_lock.specs.Alter.{altered}
 use Rattle.queue_lock.specs.Arrive.{arrived}
-use Rattle.queue_lock.specs.Every.{every, for_all, every_among}
+use Rattle.queue_lock.specs.Every.{for_all, every_among}
 use Rattle.queue_lock.specs.Turn.{Turn}
 use Rattle.queue_lock.specs.Turn as to
 
@@ -157,5 +158,5 @@ module _ (w : Config) (i : ℕ) where
     led t = let l = lands t in subst (λ x. leads (w.at i).standing x ≡ true) (sym l.1.0.here) l.1.1
 
 -- what holds of every standing and those that it can lead to holds of each step
-pub by_ways : (f : Standing → Standing → Bool) → every (λ a. every (f a) (nexts a)) standings ≡ true → (a s : Standing) → leads a s ≡ true → f a s ≡ true
-by_ways f e a s h = every_among (f a) (nexts a) s (for_all (λ x. every (f x) (nexts x)) e a) h
+pub by_ways : (f : Standing → Standing → Bool) → list_all (λ a. list_all (f a) (nexts a)) standings ≡ true → (a s : Standing) → leads a s ≡ true → f a s ≡ true
+by_ways f e a s h = every_among (f a) (nexts a) s (for_all (λ x. list_all (f x) (nexts x)) e a) h

@@ -1,5 +1,5 @@
 -- The queue lock's moves mean what a lock's are to mean.
-use Rattle.std.specs.Prelude.{◌≡◌, ℕ, ◌<◌, Bool, true, false, cond, ◌⊎◌, List, length, ◌==◌, ◌≢◌}
+use Rattle.std.specs.Prelude.{◌≡◌, ℕ, ◌<◌, Bool, true, false, cond, ◌⊎◌, List, ◌==◌, ◌≢◌}
 use Rattle.std.proofs.Math.Path.{refl, subst}
 use Rattle.std.proofs.Common.{sym, ap, ◌∙◌, inl, inr, arith}
 use mathlib.Core.HLevel.{⊥_prop}
@@ -7,7 +7,7 @@ use Rattle.std.proofs.Math.Logic.{∥∥₁_elim}
 use Rattle.std.proofs.lemmas.Bool.{cases_Bool, cases_eq, both_ways, eqb-true}
 use Rattle.lined_lock.specs.Standings.{call_means, finish_means, step_means}
 use Rattle.lock.specs.Line.{arrives}
-use Rattle.lock.specs.Meaning.{Meaning, meant, CalledIn, MayHold, Reaches, Stepped, Finished, steps_from}
+use Rattle.lock.specs.Meaning.{Meaning, Moved, meant, CalledIn, MayHold, Reaches, Stepped, Finished, steps_from}
 use Rattle.lock.specs.declared.words.Class.{Class}
 use Rattle.lock.specs.declared.words.Class.TheVariants.{Reading, Writing}
 use Rattle.lock.specs.declared.words.Phase.{Phase}
@@ -19,7 +19,7 @@ use Rattle.queue_words.specs.Steps.{slot, stands_at, stand, called_standing, fin
 use Rattle.queue_words.specs.declared.standing.Standing.{Standing}
 use Rattle.queue_words.specs.declared.standing.Standing.TheVariants.{I, W8, ReaderH, WriterH}
 use Rattle.queue_words.specs.declared.words.Words.{Words}
-use Rattle.queue_lock.specs.Config.{Config, config}
+use Rattle.queue_lock.specs.Config.{Config, Full, config}
 use Rattle.queue_lock.specs.Invariant.{Inv}
 use Rattle.queue_lock.specs.Lock.{phases, classes, bars}
 use Rattle.queue_lock.specs.Sets as is
@@ -30,7 +30,7 @@ use Rattle.queue_lock.specs.Every.{same_number, by_number}
 use Rattle.queue_lock.specs.Lands.{leads, stay, led, by_ways}
 use Rattle.queue_lock.specs.Rows.{row_of}
 use Rattle.queue_lock.specs.Safety.{writer_excludes, reader_excludes}
-use Rattle.queue_lock.specs.Standings.{idle_is, holds_is}
+use Rattle.queue_lock.specs.Standings.{is_idle, idle_is, holds_is}
 use Rattle.queue_lock.specs.Tended.{Keeps}
 use Rattle.queue_lock.specs.Turn.{Turn}
 use Rattle.queue_lock.specs.Turns.{turns}
@@ -39,13 +39,8 @@ use Rattle.queue_lock.specs.View.{stands, starts}
 abbrev pub mean : Words → Meaning
 mean = meant phases classes bars
 
--- where slot i, and where each other slot, stands after a move
-pub record Becomes (w : Words) (i : ℕ) (x : Standing) (v : Words) : Type 0 where
-  pub here : stands_at v i ≡ x
-  pub others : (j : ℕ) → (j ≢ i) → stands_at v j ≡ stands_at w j
-
 -- the slot stands elsewhere, and nothing else moves
-restands : (w : Words) (l : List ℕ) (i : ℕ) (x : Standing) → length w.table.slots ≡ 32 → i < 32 → Becomes w i x (stand w i x)
+restands : (w : Words) (l : List ℕ) (i : ℕ) (x : Standing) → Full w → i < 32 → Moved (stands_at w) i x (stands_at (stand w i x))
 restands w l i x full lt =
     let a : Config = config w l in
     let r : Record = relabelled (slot w i) x in
@@ -71,7 +66,7 @@ pub means_called : (w : Words) (l : List ℕ) (i : ℕ) (c : Class) → Keeps w 
 means_called w l i c h lt e f =
     let b = restands w l i (called_standing (stands_at w i) c) h.full lt in
     let x = ap (λ y. called_standing y c) (idle_is (stands_at w i) e) in
-    call_means phase_of class_of (stands_at w) (stands_at (called w i c)) (bars w) (bars (called w i c)) i c e f b.others (ap phase_of (b.here ∙ x) ∙ called_phase c) (ap class_of (b.here ∙ x) ∙ called_class c)
+    call_means phase_of class_of (stands_at w) (stands_at (called w i c)) (bars w) (bars (called w i c)) i c _ e f b (ap phase_of x ∙ called_phase c) (ap class_of x ∙ called_class c)
 
 finished_leaves : (x : Standing) → (x ≡ ReaderH) ⊎ (x ≡ WriterH) → (phase_of (finished_standing x) ≡ Leaves) × (class_of (finished_standing x) ≡ class_of x)
 finished_leaves x (inl e) = (ap (λ y. phase_of (finished_standing y)) e, ap (λ y. class_of (finished_standing y)) e ∙ sym (ap class_of e))
@@ -81,7 +76,7 @@ pub means_finished : (w : Words) (l : List ℕ) (i : ℕ) → Keeps w l → i < 
 means_finished w l i h lt e =
     let b = restands w l i (finished_standing (stands_at w i)) h.full lt in
     let f = finished_leaves (stands_at w i) (holds_is _ e) in
-    finish_means phase_of class_of (stands_at w) (stands_at (finished w i)) (bars w) (bars (finished w i)) i e b.others (ap phase_of b.here ∙ f.0) (ap class_of b.here ∙ f.1)
+    finish_means phase_of class_of (stands_at w) (stands_at (finished w i)) (bars w) (bars (finished w i)) i _ e b f.0 f.1
 
 -- the phases that a step can reach from each
 abbrev enters : Phase → Bool
@@ -104,13 +99,6 @@ reach Called q = enters q
 reach Waits q = enters q
 reach Holds q = true
 reach Leaves q = ends q
-
-abbrev is_idle : Phase → Bool
-is_idle Idle = true
-is_idle Called = false
-is_idle Waits = false
-is_idle Holds = false
-is_idle Leaves = false
 
 idle_by : (p : Phase) → is_idle p ≡ true → p ≡ Idle
 idle_by Idle h = refl
@@ -139,7 +127,7 @@ class_next a s h n = elim (cases_Bool (is_idle (phase_of s))) [
 
 -- a slot that holds is not idle
 pub busy : (x : Standing) → phase_of x ≡ Holds → phase_of x ≢ Idle
-busy x a b = let z : ◌≡◌ {A = ℕ} 0 1 = cc in omega arith
+busy x a b = cc
 
 -- who holds
 holding : (x : Standing) → (x ≡ ReaderH) ⊎ (x ≡ WriterH) → is.holding x ≡ true
@@ -163,8 +151,8 @@ module _ (w : Words) (l : List ℕ) (i : ℕ) (h : Keeps w l) (lt : i < 32) (m :
   pub leads_on : leads (stands_at w i) (stands_at (stepped w i) i) ≡ true
   leads_on = elim (cases_Bool (leads (stands_at w i) (stands_at (stepped w i) i))) [ inl h ↦ h | inr h ↦ absurd (never (λ v. both_ways _ h (led before i (turned v)))) ]
 
-  becomes : Becomes w i (stands_at (stepped w i) i) (stepped w i)
-  becomes = record {
+  moved : Moved (stands_at w) i (stands_at (stepped w i) i) (stands_at (stepped w i))
+  moved = record {
     here = refl;
     others = λ j d. same_number _ _ (elim (cases_eq (number (stands_at (stepped w i) j)) (number (stands_at w j))) [ inl e ↦ e | inr n ↦ absurd (never (λ v. n (ap number (stay before i (turned v) j d)))) ]);
   }
@@ -202,7 +190,7 @@ module _ (w : Words) (l : List ℕ) (i : ℕ) (h : Keeps w l) (lt : i < 32) (m :
 
   reader_may : stands_at (stepped w i) i ≡ ReaderH → MayHold Reading (mean w) i
   reader_may e j h c = elim (holds_is (stands_at w j) h) [
-    | inl k ↦ let z : ◌≡◌ {A = ℕ} 0 1 = cc (ap class_of k, c) in omega arith
+    | inl k ↦ cc (ap class_of k, c)
     | inr k ↦ let b = from_front e in never (λ v. reader_excludes before v i b.0 b.1 ((v.own i).reading b.2) j k ((v.own j).writing (row_of k).writing))
   ]
 
@@ -232,7 +220,7 @@ module _ (w : Words) (l : List ℕ) (i : ℕ) (h : Keeps w l) (lt : i < 32) (m :
   reaches Leaves Leaves a b h k = inl refl
 
   pub means_stepped : Stepped (mean w) i (mean (stepped w i))
-  means_stepped = step_means phase_of class_of (stands_at w) (stands_at (stepped w i)) (bars w) (bars (stepped w i)) i
+  means_stepped = step_means phase_of class_of (stands_at w) (stands_at (stepped w i)) (bars w) (bars (stepped w i)) i _
       (reaches (phases w i) (phases (stepped w i) i) refl refl (by_ways (λ x y. reach (phase_of x) (phase_of y)) refl (stands_at w i) (stands_at (stepped w i) i) leads_on) m)
-      becomes.others
+      moved
       (class_next (stands_at w i) (stands_at (stepped w i) i) leads_on)

@@ -1,37 +1,33 @@
+-- The definitions.
 pub mod Sets
 pub mod Places
 pub mod Config
 pub mod Invariant
 pub mod Tended
 pub mod Lock
-pub mod Laws
-pub mod Alter
-pub mod Shares
+-- Standings, the line, and small consequences of the invariant.
 pub mod Every
-pub mod Sums
 pub mod Lasts
-pub mod Lands
-pub mod Arrive
-pub mod Facts
+pub mod Rows
+pub mod Standings
 pub mod PlacesInLine
-pub mod Turn
+pub mod Shares
+pub mod Facts
+pub mod Safety
+-- What a change of the configuration has to show.
+pub mod Alter
 pub mod Move
 pub mod Name
-pub mod Rows
-pub mod Safety
-pub mod Standings
-pub mod Turns
-pub mod R13
+pub mod Arrive
 pub mod Wake
-pub mod V6
-pub mod View
--- Standings and the line.
--- Small consequences of the invariant.
--- What a change of the configuration has to show.
 pub mod Plain
 pub mod Note
 pub mod Link
--- The steps, and the invariant at each of them.
+-- The steps, as changes of the configuration, and the invariant at each of them.
+pub mod Turn
+pub mod Turns
+pub mod Lands
+pub mod View
 pub mod Looks
 pub mod Counting
 pub mod Mark
@@ -45,11 +41,13 @@ pub mod W6
 pub mod W7
 pub mod W8
 pub mod V2
+pub mod V6
 pub mod R2
 pub mod R4
 pub mod R5
 pub mod R8
 pub mod R9
+pub mod R13
 pub mod E2
 pub mod E5
 pub mod E7
@@ -74,7 +72,8 @@ pub mod Freed
 pub mod Tails
 pub mod Watching
 pub mod Tending
--- From the words to the configuration, and the lock's laws.
+-- The laws of the lock's procedures.
 pub mod Fullness
 pub mod Keeps
+pub mod Laws
 pub mod InTurn

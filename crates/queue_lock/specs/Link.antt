@@ -23,9 +23,6 @@ share_linked : (e : Record) (s n : ℕ) → share (linked e s) n ≡ share e n
 unfolding share
 share_linked e s n = refl
 
-some_inj : (n m : ℕ) → Some n ≡ Some m → n ≡ m
-some_inj n m e = cc
-
 module _ (w : Config) (p s : ℕ) (v : Inv w) (h : Links w p s) where
   roles : Roles w p (linked (w.at p) s)
   roles =
@@ -53,7 +50,7 @@ module _ (w : Config) (p s : ℕ) (v : Inv w) (h : Links w p s) where
         followed = λ t _ u z _. absurd (h.alone t u z);
         owing = λ k n z.
             let y = h.owing k in
-            subst (λ x. (x ≡ p → ⊥) × Owed p (linked (w.at p) s) (w.at x) × (w.next_writer ≡ Some x → ⊥) × Next w p x) (some_inj s n z) (h.apart, record { pred = y.0.pred; on = y.0.on; standing = y.0.standing; writes = y.0.writes; reads = y.0.reads }, y.1, y.2);
+            subst (λ x. (x ≡ p → ⊥) × Owed p (linked (w.at p) s) (w.at x) × (w.next_writer ≡ Some x → ⊥) × Next w p x) (fact.some_inj s n z) (h.apart, record { pred = y.0.pred; on = y.0.on; standing = y.0.standing; writes = y.0.writes; reads = y.0.reads }, y.1, y.2);
         owed = λ k _ _ _ y. record { pred = y.pred; on = y.on; standing = y.standing; writes = y.writes; reads = y.reads };
         tail = λ z. absurd (h.tail z);
       }

@@ -1,5 +1,5 @@
 -- X3 over a step: a next writer that waits while nobody is counted is still looked after.
-use Rattle.std.proofs.Common.{◌≡◌, ℕ, true, cond, ◌⊎◌, Some, None, sym, refl, ap, ◌∙◌, subst, inl, inr, arith}
+use Rattle.std.proofs.Common.{◌≡◌, ℕ, true, cond, ◌⊎◌, Some, None, sym, refl, ap, ◌∙◌, subst, inl, inr}
 use Rattle.std.proofs.lemmas.Bool.{cases_eq}
 use Rattle.queue_words.specs.declared.standing.Standing.{Standing}
 use Rattle.queue_lock.specs.Sets as is
@@ -46,7 +46,7 @@ module _ (w v : Config) (i : ℕ) (g : Tended w) (k : Keeps w.at v.at i) (r : Lo
 
 -- no next writer, or somebody is counted
 pub look_unnamed : {w v : Config} {i : ℕ} → v.next_writer ≡ None → Look w v i
-look_unnamed {w} {v} {i} e x q h z = let b : ◌≡◌ {A = ℕ} 0 1 = cc (e, q) in absurd (omega arith)
+look_unnamed {w} {v} {i} e x q h z = absurd (cc (e, q))
 
 pub look_counted : {w v : Config} {i : ℕ} → (v.reader_count ≡ 0 → ⊥) → Look w v i
 look_counted {w} {v} {i} d x q h z = absurd (d z)

@@ -1,4 +1,5 @@
 -- A slot looks at a word and goes on: only its standing changes, and its share of the count stays.
+use Rattle.std.specs.Prelude.{is_some}
 use Rattle.std.proofs.Common.{◌≡◌, ℕ, ◌+◌, ◌<◌, Bool, true, false, cond, List, [], ◌∷◌, Some, sym, refl, ap, ◌∙◌, subst, inl, arith}
 use Rattle.std.proofs.lemmas.Bool.{both_ways}
 use Rattle.lock.specs.declared.words.Class.TheVariants.{Reading, Writing}
@@ -9,7 +10,7 @@ use Rattle.queue_words.specs.declared.standing.Standing.{Standing}
 use Rattle.queue_words.specs.declared.standing.Standing.TheVariants.{I, V1, V2, V3, V4, V5, V6, R3, R4, R5, R6, R10, R11, R12, ReaderH, E1, E2, E3, E4, E5, E6, E8, E9}
 use Rattle.queue_lock.specs.Sets as is
 use Rattle.queue_lock.specs.Config.{Config}
-use Rattle.queue_lock.specs.Invariant.{Inv, Own, has, owes, share, share_of, next_share, one_if}
+use Rattle.queue_lock.specs.Invariant.{Inv, Own, owes, share, share_of, next_share, one_if}
 use Rattle.queue_lock.specs.Alter as alter
 use Rattle.queue_lock.specs.Every.{implies}
 use Rattle.queue_lock.specs.Facts as fact
@@ -90,8 +91,8 @@ module _ (w : Config) (i : ℕ) (a l : Standing) (v : Inv w) (o : Row (w.at i).s
   -- the slot's next is known: it is not the tail, and nobody is about to link behind it
   next_seen : (m : ℕ) → (w.at i).next ≡ Some m → is.is_sleeping a ≡ false → is.is_unlinked l ≡ false → Own (relabelled (w.at i) l) → (is.fetching l ≡ true → (k : ℕ) → (w.at i).next ≡ Some k → (w.at k).class ≡ Reading) → Seen w i l
   next_seen m q z u own fetching =
-      let tail : w.tail ≡ Some i → ⊥ = λ t. fact.nobody (w.at i).next (ap has q) (v.tailed i t).next in
-      let behind : (s : ℕ) → is.unlinked (w.at s).standing ≡ true → (w.at s).pred ≡ Some i → ⊥ = λ s u y. fact.nobody (w.at i).next (ap has q) (v.behind s i u y).next in
+      let tail : w.tail ≡ Some i → ⊥ = λ t. fact.nobody (w.at i).next (ap is_some q) (v.tailed i t).next in
+      let behind : (s : ℕ) → is.unlinked (w.at s).standing ≡ true → (w.at s).pred ≡ Some i → ⊥ = λ s u y. fact.nobody (w.at i).next (ap is_some q) (v.behind s i u y).next in
       record {
         own = own;
         fetching = fetching;

@@ -1,5 +1,6 @@
 -- A slot notes itself behind its predecessor and goes on to link: cut in three, through a standing at which nothing is asked of
 -- the predecessor.
+use Rattle.std.specs.Prelude.{is_some}
 use Rattle.std.proofs.Common.{◌≡◌, ℕ, ◌<◌, Bool, true, false, cond, List, [], ◌∷◌, get_or, Some, sym, refl, ap, ◌∙◌, subst, inl, inr, arith}
 use mathlib.Core.Path.{fun_ext}
 use Rattle.std.proofs.lemmas.Bool.{both_ways, cases_eq}
@@ -11,7 +12,7 @@ use Rattle.queue_words.specs.declared.standing.Standing.{Standing}
 use Rattle.queue_words.specs.declared.standing.Standing.TheVariants.{I}
 use Rattle.queue_lock.specs.Sets as is
 use Rattle.queue_lock.specs.Config.{Config}
-use Rattle.queue_lock.specs.Invariant.{Inv, Own, Behind, Next, has, owes, share, share_of, next_share}
+use Rattle.queue_lock.specs.Invariant.{Inv, Own, Behind, Next, owes, share, share_of, next_share}
 use Rattle.queue_lock.specs.Alter as alter
 use Rattle.queue_lock.specs.Facts as fact
 use Rattle.queue_lock.specs.Looks.{line_seen, tests as looks-tests, roles as looks-roles}
@@ -71,7 +72,7 @@ module _ (w : Config) (i p : ℕ) (a m l : Standing) (c : Successor) (v : Inv w)
     -- second part: the note
     notes : Notes one p c
     notes = record {
-      wakes = λ h. let z : ◌≡◌ {A = ℕ} 0 1 = cc (nobody, (v.own p).wakes (subst (λ y. is.wakes y.standing ≡ true) same_p h)) in absurd (omega arith);
+      wakes = λ h. absurd (cc (nobody, (v.own p).wakes (subst (λ y. is.wakes y.standing ≡ true) same_p h)));
       names = λ h. absurd (both_ways _ (fact.not_names _ before.standing) (subst (λ y. is.names y.standing ≡ true) same_p h));
       next = ap (λ y. y.next) same_p ∙ before.next;
       alone = λ s u z. elim (cases_eq s i) [
@@ -132,7 +133,7 @@ module _ (w : Config) (i p : ℕ) (a m l : Standing) (c : Successor) (v : Inv w)
       followed = λ _ _ _ _. n.followed ∙ t 23;
       linking = λ _ _ _ _ _ h. n.arriving ∙ imply _ _ (t 24) (sym o2.arriving ∙ h);
       owing = owing_kept _ _ _ _ (λ _ h. o2.owing_w ∙ imply _ _ (t 25) (sym n.owing_w ∙ h)) (λ _ h. o2.owing_r ∙ imply _ _ (t 26) (sym n.owing_r ∙ h)) (λ _ h. o2.owing_n ∙ imply _ _ (t 27) (sym n.owing_n ∙ h));
-      owed = λ j d h z. absurd (let y = back (λ y. (owes y ≡ true) × (y.next ≡ Some i)) (λ g. absurd (fact.nobody (w.at p).next (ap has g.1) before.next)) j d (h, z) in not_owed j y.0 y.1);
+      owed = λ j d h z. absurd (let y = back (λ y. (owes y ≡ true) × (y.next ≡ Some i)) (λ g. absurd (fact.nobody (w.at p).next (ap is_some g.1) before.next)) j d (h, z) in not_owed j y.0 y.1);
       ending_w = λ _ h. absurd (both_ways _ (o2.ending_w ∙ deny _ (t 13)) h);
       ending_r = λ _ h. absurd (both_ways _ (o2.ending_r ∙ deny _ (t 14)) h);
     }

@@ -1,6 +1,6 @@
 -- The next writer or the tail changes, and no record: what has to hold.
 use Rattle.std.specs.Prelude.{◌≡◌, ℕ, true, false, ◌⊎◌, Some, None, Option, ◌≢◌, refl}
-use Rattle.std.proofs.Common.{sym, subst, inl, inr, arith}
+use Rattle.std.proofs.Common.{sym, subst, inl, inr}
 use Rattle.queue_lock.specs.Sets as is
 use Rattle.queue_lock.specs.Config.{Config}
 use Rattle.queue_lock.specs.Invariant.{Inv, Front, Alone, Act, Waits, owes, AllAct}
@@ -74,12 +74,12 @@ untail w v a c =
       named = λ x q. let y = v.named x q in (y.0, last.front l y.1);
       asked = λ t x h q k. let y = v.asked t x h q k in (y.0, elim y.1 [ inl b ↦ inl (last.alone l b) | inr b ↦ inr b ]);
       behind = v.behind;
-      behind_tail = λ s p u q z. let k : ◌≡◌ {A = ℕ} 0 1 = cc in omega arith;
+      behind_tail = λ s p u q z. cc;
       behind_other = v.behind_other;
       owed = v.owed;
       owed_unnamed = v.owed_unnamed;
       pairs = λ p s q. let y = v.pairs p s q in record { line = y.line; writer = y.writer; reader = λ h. last.front l (y.reader h) };
-      tailed = λ t q. let k : ◌≡◌ {A = ℕ} 0 1 = cc in absurd (omega arith);
+      tailed = λ t q. absurd (cc);
       untailed = λ _. (a, c);
       one_leaves = v.one_leaves;
       counted = v.counted;

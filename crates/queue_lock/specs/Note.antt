@@ -1,10 +1,11 @@
 -- A slot is noted behind another: what has to hold of that other.
+use Rattle.std.specs.Prelude.{is_some}
 use Rattle.std.proofs.Common.{◌≡◌, ℕ, ◌<◌, true, Some, None, refl, ap, ◌∙◌, subst, inl, arith}
 use Rattle.std.proofs.lemmas.Bool.{both_ways}
 use Rattle.queue_words.specs.declared.record.Successor.TheVariants.{Reader, Writer}
 use Rattle.queue_lock.specs.Sets as is
 use Rattle.queue_lock.specs.Config.{Config}
-use Rattle.queue_lock.specs.Invariant.{Inv, has, share_of, share, next_share}
+use Rattle.queue_lock.specs.Invariant.{Inv, share_of, share, next_share}
 use Rattle.queue_words.specs.declared.record.Successor.{Successor}
 use Rattle.queue_words.specs.Records.{noted}
 use Rattle.queue_lock.specs.Facts as fact
@@ -43,7 +44,7 @@ module _ (w : Config) (p : ℕ) (a : Successor) (v : Inv w) (h : Notes w p a) wh
         asked = λ t _ k z m. (m, (v.asked t p k z m).0);
         behind = λ u k z. let b = v.behind p k u z in ((λ d. v.behind_other p u (z ∙ ap Some d)), record { next = b.next; standing = b.standing; plain = b.plain; noted = b.noted; reads = b.reads; free = b.free; linking = b.linking }, v.behind_tail p k u z, v.pairs k p (z, inl u));
         followed = λ s _ u z _. absurd (h.alone s u z);
-        owing = λ _ s z. absurd (fact.nobody (w.at p).next (ap has z) h.next);
+        owing = λ _ s z. absurd (fact.nobody (w.at p).next (ap is_some z) h.next);
         owed = λ k _ _ _ y. record { pred = y.pred; on = y.on; standing = y.standing; writes = y.writes; reads = y.reads };
         tail = λ z. absurd (h.tail z);
       }

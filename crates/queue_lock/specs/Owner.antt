@@ -1,19 +1,14 @@
 -- The predecessor of a slot that links itself has to wake it, or to make it next writer.
 use Rattle.std.proofs.Common.{◌≡◌, true, cond, ◌⊎◌, refl, inl, inr}
 use Rattle.std.proofs.lemmas.Bool.{cases_Bool}
-use Rattle.lock.specs.declared.words.Class.{Class}
-use Rattle.lock.specs.declared.words.Class.TheVariants.{Reading, Writing}
+use Rattle.lock.specs.declared.words.Class.TheVariants.{Writing}
 use Rattle.queue_words.specs.declared.record.Record.{Record}
 use Rattle.queue_words.specs.declared.standing.Standing.{Standing}
 use Rattle.queue_lock.specs.Sets as is
 use Rattle.queue_lock.specs.Invariant.{Own, Behind, owes}
 use Rattle.queue_lock.specs.Every.{implies}
-use Rattle.queue_lock.specs.Facts.{one_class}
+use Rattle.queue_lock.specs.Facts.{class_cases, one_class}
 use Rattle.queue_lock.specs.Shares.{owing_writer, owing_reader, owing_next}
-
-class_cases : (c : Class) → (c ≡ Reading) ⊎ (c ≡ Writing)
-class_cases Reading = inl refl
-class_cases Writing = inr refl
 
 followed_owing_w : (l : Standing) → is.followed l ≡ true → (is.reading l ≡ true) ⊎ (is.owing_w l ≡ true)
 unfolding is.followed is.reading is.owing_w

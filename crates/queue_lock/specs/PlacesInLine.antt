@@ -2,6 +2,7 @@
 use Rattle.std.specs.Prelude.{◌≡◌, ℕ, zero, suc, ◌<◌, ◌≤◌, true, false, cond, ◌⊎◌, List, [], ◌∷◌, ◌++◌, length, ◌==◌, ◌≢◌, refl}
 use Rattle.std.proofs.Common.{sym, ap, ◌∙◌, inl, inr, arith}
 use Rattle.std.proofs.lemmas.Bool.{cases_eq, cases_lt, eq-eqb, ne_eqb}
+use Rattle.lined_lock.specs.Lines.{without_hit, without_miss}
 use Rattle.lock.specs.Line.{without}
 use Rattle.queue_lock.specs.Places.{pos, Distinct}
 
@@ -51,10 +52,7 @@ left_none (y ∷ l) x h = let k = left_none l x in grind arith
 
 -- the first slot leaves, or another
 left_here : (l : List ℕ) (x y : ℕ) → x ≡ y → pos l y ≡ length l → without x (y ∷ l) ≡ l
-left_here l x y e h = let a = eq-eqb y x (sym e) in rw a (left_none l x (ap (pos l) e ∙ h))
-
-left_there : (l : List ℕ) (x y : ℕ) → (x ≢ y) → without x (y ∷ l) ≡ y ∷ without x l
-left_there l x y d = let a = ne_eqb y x (λ q. d (sym q)) in rw a refl
+left_here l x y e h = without_hit y x l (sym e) ∙ left_none l x (ap (pos l) e ∙ h)
 
 pub pos_there : (l : List ℕ) (x y : ℕ) → (x ≢ y) → pos (y ∷ l) x ≡ suc (pos l x)
 unfolding pos
@@ -69,7 +67,7 @@ unfolding Distinct pos
 length_left [] x d h = absurd (omega arith)
 length_left (y ∷ l) x d h = elim (cases_eq x y) [
   | inl e ↦ ap (λ n. suc (length n)) (left_here l x y e d.0)
-  | inr n ↦ let p = pos_there l x y n in ap (λ m. suc (length m)) (left_there l x y n) ∙ ap suc (length_left l x d.1 (omega arith))
+  | inr n ↦ let p = pos_there l x y n in ap (λ m. suc (length m)) (without_miss y x l (λ q. n (sym q))) ∙ ap suc (length_left l x d.1 (omega arith))
 ]
 
 -- the place of another slot, after x has left
@@ -84,7 +82,7 @@ left_cases (z ∷ l) x y d h n = elim (cases_eq x z) [
       inr (omega arith, omega arith)
   | inr m ↦
       let a = pos_there l x z m in
-      let c = ap (λ k. pos k y) (left_there l x z m) in
+      let c = ap (λ k. pos k y) (without_miss z x l (λ q. m (sym q))) in
       elim (cases_eq y z) [
         | inl e ↦ let b = pos_here l y z e in let f = pos_here (without x l) y z e in inl (omega arith, omega arith)
         | inr k ↦
@@ -107,7 +105,7 @@ unfolding pos
 pos_left_same [] x = refl
 pos_left_same (z ∷ l) x = elim (cases_eq x z) [
   | inl e ↦ left_drops l x z e (pos_left_same l x)
-  | inr n ↦ ap (λ m. pos m x) (left_there l x z n) ∙ pos_there (without x l) x z n ∙ ap suc (pos_left_same l x) ∙ sym (ap length (left_there l x z n))
+  | inr n ↦ ap (λ m. pos m x) (without_miss z x l (λ q. n (sym q))) ∙ pos_there (without x l) x z n ∙ ap suc (pos_left_same l x) ∙ sym (ap length (without_miss z x l (λ q. n (sym q))))
 ]
 
 pub distinct_left : (l : List ℕ) (x : ℕ) → Distinct l → Distinct (without x l)

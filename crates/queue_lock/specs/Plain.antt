@@ -2,13 +2,12 @@
 use Rattle.std.proofs.Common.{◌≡◌, ℕ, zero, suc, Bool, true, false, cond, List, [], ◌∷◌, get_or, Some, sym, refl, ◌∙◌}
 use Rattle.std.proofs.lemmas.Bool.{both_ways}
 use Rattle.queue_words.specs.declared.standing.Standing.{Standing}
-use Rattle.queue_words.specs.declared.standing.Standing.TheVariants.{I, W3, W8, R2, R9, R12, R13, E1, E2, V1, V2, E6, E7, E8, E4, V4, V6}
 use Rattle.lock.specs.declared.words.Class.TheVariants.{Reading, Writing}
 use Rattle.queue_lock.specs.Sets as is
 use Rattle.queue_lock.specs.Config.{Config}
 use Rattle.queue_words.specs.Records.{relabelled}
 use Rattle.queue_lock.specs.Invariant.{Inv, Own, Front, Alone, In, admitted, only}
-use Rattle.queue_lock.specs.Rows.{Row, row, row_of}
+use Rattle.queue_lock.specs.Rows.{Row}
 use Rattle.queue_lock.specs.Shares.{owing_kept}
 use Rattle.queue_lock.specs.Move.{Roles, no_waking, no_unlinked}
 
@@ -101,34 +100,3 @@ module _ (w : Config) (i : ℕ) (a l : Standing) (v : Inv w) (o : Row (w.at i).s
       (λ q. absurd (both_ways _ (n.fetching ∙ deny _ (t 0)) q))
       (λ z q. v.front i z (more (w.at i).state.blocked (is.admitted l) (is.admitted (w.at i).standing) (λ p. o.admitted ∙ imply _ _ (t 1) (sym n.admitted ∙ p)) q))
       (λ z c q. v.alone i z c (more (w.at i).state.blocked (is.only l) (is.only (w.at i).standing) (λ p. o.only ∙ imply _ _ (t 2) (sym n.only ∙ p)) q))
-
--- the standings that are plain
-pub e1_e2 : (w : Config) (i : ℕ) → Inv w → (w.at i).standing ≡ E1 → Roles w i E2
-e1_e2 w i v e = plain w i E1 E2 v (row_of e) (row E2) refl refl
-
-pub w3_w8 : (w : Config) (i : ℕ) → Inv w → (w.at i).standing ≡ W3 → Roles w i W8
-w3_w8 w i v e = plain w i W3 W8 v (row_of e) (row W8) refl refl
-
-pub r2_r9 : (w : Config) (i : ℕ) → Inv w → (w.at i).standing ≡ R2 → Roles w i R9
-r2_r9 w i v e = plain w i R2 R9 v (row_of e) (row R9) refl refl
-
-pub r12_r13 : (w : Config) (i : ℕ) → Inv w → (w.at i).standing ≡ R12 → Roles w i R13
-r12_r13 w i v e = plain w i R12 R13 v (row_of e) (row R13) refl refl
-
-pub v1_v2 : (w : Config) (i : ℕ) → Inv w → (w.at i).standing ≡ V1 → Roles w i V2
-v1_v2 w i v e = plain w i V1 V2 v (row_of e) (row V2) refl refl
-
-pub e6_e7 : (w : Config) (i : ℕ) → Inv w → (w.at i).standing ≡ E6 → Roles w i E7
-e6_e7 w i v e = plain w i E6 E7 v (row_of e) (row E7) refl refl
-
-pub e6_i : (w : Config) (i : ℕ) → Inv w → (w.at i).standing ≡ E6 → Roles w i I
-e6_i w i v e = plain w i E6 I v (row_of e) (row I) refl refl
-
-pub e4_e6 : (w : Config) (i : ℕ) → Inv w → (w.at i).standing ≡ E4 → Roles w i E6
-e4_e6 w i v e = plain w i E4 E6 v (row_of e) (row E6) refl refl
-
-pub e8_i : (w : Config) (i : ℕ) → Inv w → (w.at i).standing ≡ E8 → Roles w i I
-e8_i w i v e = plain w i E8 I v (row_of e) (row I) refl refl
-
-pub v4_v6 : (w : Config) (i : ℕ) → Inv w → (w.at i).standing ≡ V4 → Roles w i V6
-v4_v6 w i v e = plain w i V4 V6 v (row_of e) (row V6) refl refl

@@ -16,7 +16,7 @@ use Rattle.queue_words.specs.Records.{freed}
 use Rattle.queue_lock.specs.Every.{implies, apart}
 use Rattle.queue_lock.specs.Facts as fact
 use Rattle.queue_lock.specs.Shares.{owing_reader, owing_by, share_asleep, share_awake}
-use Rattle.queue_lock.specs.Sums.{total_at}
+use Rattle.lined_lock.specs.Totals.{total_at}
 use Rattle.queue_lock.specs.Move.{moved, Roles, relabel, no_waking, no_unlinked, lasts, there, at_here, at_there, to_there}
 use Rattle.queue_lock.specs.Alter.{altered}
 use Rattle.queue_lock.specs.Alter as alter
@@ -108,7 +108,7 @@ module _ (w : Config) (i : ℕ) (v : Inv w) (lt : i < 32) (e : (w.at i).standing
       fact.front_next w i s (v.front i i_inside (grind arith)) (record { reads = reads; free = f }) ((v.pairs i s (owed.pred, inr (q, owe))).line i_inside) inside
 
   not_owing : owes (mid.at i) ≡ true → ⊥
-  not_owing h = owing_by (w.at i).class (w.at i).state.successor ReaderH (at_here w i ReaderH (w.reader_count - 1) (λ y. owes y ≡ true) i refl h) ⊥ (λ c _. fact.one_class (w.at i) reads c) (λ _ _ k. both_ways _ (row ReaderH).owing_r k) (λ _ a _. let z : ◌≡◌ {A = ℕ} 0 1 = cc (a, behind) in omega arith)
+  not_owing h = owing_by (w.at i).class (w.at i).state.successor ReaderH (at_here w i ReaderH (w.reader_count - 1) (λ y. owes y ≡ true) i refl h) ⊥ (λ c _. fact.one_class (w.at i) reads c) (λ _ _ k. both_ways _ (row ReaderH).owing_r k) (λ _ a _. cc (a, behind))
 
   not_waits : Waits (w.at s) → ⊥
   unfolding is.sleeping_r is.waiting

@@ -24,8 +24,8 @@ module _ (w : Config) (i : ℕ) (v : Inv w) (lt : i < 32) (e : (w.at i).standing
       let b = v.behind i p o.unlinked q in
       owing_by (w.at p).class (w.at p).state.successor (w.at p).standing h ⊥
       (λ c _. fact.one_class (w.at p) (b.reads o.behind_reader) c)
-      (λ _ s _. let z : ◌≡◌ {A = ℕ} 0 1 = cc (s, b.plain o.plain) in omega arith)
-      (λ _ s _. let z : ◌≡◌ {A = ℕ} 0 1 = cc (s, b.plain o.plain) in omega arith)
+      (λ _ s _. cc (s, b.plain o.plain))
+      (λ _ s _. cc (s, b.plain o.plain))
 
   pub kept : Inv (joined (stood w i R9) p i)
   kept = join w i p R9 v lt o.unlinked q o.waiting roles (row R9).unlinked (stays w i R8 R9 v o (row R9) refl) (λ h. absurd (free h))

@@ -1,13 +1,15 @@
 -- The fresh lock is sound, and what the invariant says of a slot that begins to hold.
-use Rattle.std.specs.Prelude.{◌≡◌, ℕ, Bool, true, false, [], Some, None, ◌≢◌, refl}
+use Rattle.std.specs.Prelude.{◌≡◌, ℕ, Bool, true, false, [], None, ◌≢◌, refl}
 use Rattle.std.proofs.Common.{sym, subst, inl, inr, arith}
+use Rattle.std.proofs.lemmas.Option.{none-some}
 use Rattle.std.proofs.lemmas.Bool.{both_ways, cases_order}
-use Rattle.queue_words.specs.declared.standing.Standing.TheVariants.{I, W8, R10, WriterH}
+use Rattle.queue_words.specs.declared.standing.Standing.TheVariants.{I, W8, WriterH}
 use Rattle.lock.specs.declared.words.Class.TheVariants.{Reading, Writing}
 use Rattle.queue_lock.specs.Sets as is
 use Rattle.queue_lock.specs.Places.{pos}
-use Rattle.queue_lock.specs.Config.{Config, total}
-use Rattle.queue_lock.specs.Invariant.{Inv, Front, Alone, share}
+use Rattle.lined_lock.specs.Totals.{total}
+use Rattle.queue_lock.specs.Config.{Config}
+use Rattle.queue_lock.specs.Invariant.{Inv, Alone, share}
 use Rattle.queue_lock.specs.Rows.{row, row_of}
 use Rattle.queue_lock.specs.Places.{Distinct}
 use Rattle.queue_words.specs.Records.{unused}
@@ -16,9 +18,6 @@ use Rattle.queue_lock.specs.Facts as fact
 
 no : (f : Bool) → f ≡ false → {X : Type 0} → f ≡ true → X
 no f z {X} h = absurd (both_ways f z h)
-
-no_some : (n : ℕ) → None ≢ Some n
-no_some n e = let z : ◌≡◌ {A = ℕ} 0 1 = cc in omega arith
 
 -- nobody in line, and every slot idle
 abbrev pub fresh : Config
@@ -39,15 +38,15 @@ fresh_inv =
       woken = λ t x. no _ n.waking;
       woken_unnamed = λ t h. refl;
       one_wakes = λ t u. no _ n.waking;
-      named = λ x q. absurd (no_some x q);
+      named = λ x q. absurd (none-some x q);
       asked = λ t x. no _ n.asking;
       behind = λ s p. no _ n.unlinked;
       behind_tail = λ s p. no _ n.unlinked;
       behind_other = λ s. no _ n.unlinked;
-      owed = λ p s h q. absurd (no_some s q);
-      owed_unnamed = λ p s h q. absurd (no_some s q);
-      pairs = λ p s q. absurd (no_some p q.0);
-      tailed = λ t q. absurd (no_some t q);
+      owed = λ p s h q. absurd (none-some s q);
+      owed_unnamed = λ p s h q. absurd (none-some s q);
+      pairs = λ p s q. absurd (none-some p q.0);
+      tailed = λ t q. absurd (none-some t q);
       untailed = λ q. (λ y h. absurd (omega arith), λ t. n.writeway);
       one_leaves = λ t u. no _ n.writeway;
       counted = rw (n.counts_two, n.counts_one, n.sleeping_r, n.handing) refl;
@@ -69,10 +68,6 @@ writer_excludes w v i e b y k =
       | inr (inl q) ↦ fact.writer_not_act (w.at i) ((v.own i).writing o.writing) (f.ahead i q)
       | inr (inr q) ↦ let z = a.first in omega arith
     ]
-
--- a reader that begins to hold stands behind readers alone
-pub reader_order : (w : Config) → Inv w → (i : ℕ) → (w.at i).standing ≡ R10 → Front w i
-reader_order w v i e = let o = row_of e in v.front i (fact.in_line w v i o.lining) (rw ((v.own i).off o.off) refl)
 
 -- a slot at the front that reads: no writer holds
 pub reader_excludes : (w : Config) → Inv w → (i : ℕ) → is.off (w.at i).standing ≡ true → is.lining (w.at i).standing ≡ true → (w.at i).class ≡ Reading → (y : ℕ) → (w.at y).standing ≡ WriterH → (w.at y).class ≢ Writing

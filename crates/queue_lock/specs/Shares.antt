@@ -1,6 +1,6 @@
 -- Owing and the share of the count, by standing.
 use Rattle.std.specs.Prelude.{◌≡◌, ℕ, true, false, Some, None, Option, refl}
-use Rattle.std.proofs.Common.{ap, arith}
+use Rattle.std.proofs.Common.{ap}
 use Rattle.queue_words.specs.declared.standing.Standing.{Standing}
 use Rattle.lock.specs.declared.words.Class.{Class}
 use Rattle.lock.specs.declared.words.Class.TheVariants.{Reading, Writing}
@@ -16,7 +16,7 @@ use Rattle.queue_lock.specs.Invariant.{owing, share, next_share, one_if}
 pub owing_by : (c : Class) (a : Successor) (l : Standing) → owing c a l ≡ true → (P : Type 0) → (c ≡ Writing → is.owing_w l ≡ true → P) → (c ≡ Reading → a ≡ Reader → is.owing_r l ≡ true → P) → (c ≡ Reading → a ≡ Writer → is.owing_n l ≡ true → P) → P
 unfolding owing
 owing_by Writing a l h P f g k = f refl h
-owing_by Reading Nobody l h P f g k = let q : ◌≡◌ {A = ℕ} 0 1 = cc in absurd (omega arith)
+owing_by Reading Nobody l h P f g k = absurd (cc)
 owing_by Reading Reader l h P f g k = g refl refl h
 owing_by Reading Writer l h P f g k = k refl refl h
 

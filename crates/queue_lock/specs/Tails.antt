@@ -1,5 +1,5 @@
 -- Steps that write the tail: a called slot arrives, a leaving slot takes itself off.
-use Rattle.std.proofs.Common.{◌≡◌, ℕ, Bool, true, false, cond, ◌&&◌, Some, refl, ap, inl, inr, arith}
+use Rattle.std.proofs.Common.{◌≡◌, ℕ, Bool, true, false, cond, ◌&&◌, Some, refl, ap, inl, inr}
 use Rattle.std.proofs.lemmas.Bool.{both_ways, and_parts}
 use Rattle.lock.specs.declared.words.Class.{Class}
 use Rattle.queue_words.specs.Records.{filled}
@@ -63,5 +63,5 @@ leaves w i a l iv g e q t0 t1 t2 t3 t4 t5 t6 =
     let o = row_of e in
     let n = here w i l w.reader_count in
     tended w v i g (stands w i l w.reader_count) (follow_untail w v i a l o n q t1 t0)
-    (mind w v i a l o n refl t3 (dozed w v i a l o n t2) (λ s _ z _. let b : ◌≡◌ {A = ℕ} 0 1 = cc ((iv.tailed i q).next, z) in absurd (omega arith)))
+    (mind w v i a l o n refl t3 (dozed w v i a l o n t2) (λ s _ z _. absurd (cc ((iv.tailed i q).next, z))))
     (look w v i a l o n iv refl inl (not_so _ _ t4) t5 t6)

@@ -1,8 +1,8 @@
 -- The clauses on which progress rests: somebody is responsible for every hand-over.
-use Rattle.std.specs.Prelude.{◌≡◌, ℕ, true, ◌⊎◌, List, length, Some, None, ◌≢◌}
+use Rattle.std.specs.Prelude.{◌≡◌, ℕ, true, ◌⊎◌, List, Some, None, ◌≢◌}
 use Rattle.std.proofs.Props.{props}
 use Rattle.queue_lock.specs.Sets as is
-use Rattle.queue_lock.specs.Config.{Config, config}
+use Rattle.queue_lock.specs.Config.{Config, Full, config}
 use Rattle.queue_lock.specs.Invariant.{Inv, owes}
 use Rattle.queue_words.specs.declared.words.Words.{Words}
 
@@ -25,7 +25,7 @@ Sound w = ∥ Inv w × Tended w ∥₁
 
 -- the invariant of the words and the line
 pub record Keeps (w : Words) (l : List ℕ) : Type 0 where
-  pub full : length w.table.slots ≡ 32
+  pub full : Full w
   pub sound : Sound (config w l)
 
 pub keeps_once : (w : Words) (l : List ℕ) → IsProp (Keeps w l)

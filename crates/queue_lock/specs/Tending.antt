@@ -1,6 +1,7 @@
 -- Every call, step and finish leaves every hand-over tended.
-use Rattle.std.proofs.Common.{◌≡◌, ℕ, ◌-◌, ◌⊎◌, Some, None, sym, refl, ◌∙◌, subst, inl, inr, arith}
+use Rattle.std.proofs.Common.{◌≡◌, ℕ, ◌-◌, ◌⊎◌, sym, refl, ◌∙◌, subst, inl, inr, arith}
 use Rattle.std.proofs.lemmas.Bool.{both_ways}
+use Rattle.std.proofs.lemmas.Option.{none-some}
 use Rattle.lock.specs.declared.words.Class.TheVariants.{Reading, Writing}
 use Rattle.queue_words.specs.declared.record.Successor.TheVariants.{Reader, Writer}
 use Rattle.queue_words.specs.declared.standing.Standing.{Standing}
@@ -33,11 +34,8 @@ module _ (w : Config) (i : ℕ) (iv : Inv w) (g : Tended w) where
   e4_goes : (w.at i).standing ≡ E4 → ((w.at i).state.successor ≡ Writer → ⊥) → Tended (stood w i E6)
   e4_goes e d = moves w i E4 E6 w.reader_count iv g e (owe (w.at i) E4 E6 (row_of e) (λ _. refl) (λ _ _. refl) (λ _ s. absurd (d s))) inl refl
 
-none_some : {A : Type 0} {p : ℕ} → None ≡ Some p → A
-none_some {A} {p} e = let z : ◌≡◌ {A = ℕ} 0 1 = cc in absurd (omega arith)
-
 pub turn_tends : (w v : Config) (i : ℕ) → Inv w → Tended w → Turn w i v → Tended v
-turn_tends w v i iv g (w1_first e t q) = ends q (arrives w i W1 W2 Writing iv g e (λ p z. none_some (sym t ∙ z)) refl)
+turn_tends w v i iv g (w1_first e t q) = ends q (arrives w i W1 W2 Writing iv g e (λ p z. absurd (none-some _ (sym t ∙ z))) refl)
 turn_tends w v i iv g (w1_behind e p t q) = ends q (arrives w i W1 W6 Writing iv g e (λ _ _. refl) refl)
 turn_tends w v i iv g (w2 e q) = ends q (w2_tends w i iv g e)
 turn_tends w v i iv g (w3_zero e z q) = ends q (stays w i W3 W4 iv g e refl refl)
@@ -59,7 +57,7 @@ turn_tends w v i iv g (v4_reads e n m c q) = ends q (stays w i V4 V5 iv g e refl
 turn_tends w v i iv g (v4_writes e n m c q) = ends q (stays w i V4 V6 iv g e refl refl)
 turn_tends w v i iv g (v5 e q) = ends q (counts w i V5 V6 iv g e refl refl)
 turn_tends w v i iv g (v6 e n m q) = ends q (wakes_next w i I n V6 iv g e m refl)
-turn_tends w v i iv g (r1_first e t q) = ends q (arrives w i R1 R2 Reading iv g e (λ p z. none_some (sym t ∙ z)) refl)
+turn_tends w v i iv g (r1_first e t q) = ends q (arrives w i R1 R2 Reading iv g e (λ p z. absurd (none-some _ (sym t ∙ z))) refl)
 turn_tends w v i iv g (r1_behind e p t q) = ends q (arrives w i R1 R3 Reading iv g e (λ _ _. refl) refl)
 turn_tends w v i iv g (r2 e q) = ends q (counts w i R2 R9 iv g e refl refl)
 turn_tends w v i iv g (r3_reads e p b c q) = ends q (stays w i R3 R4 iv g e refl refl)
@@ -116,5 +114,5 @@ pub fresh_tended : Tended fresh
 fresh_tended = let n = row I in record {
   followed = λ p h. absurd (both_ways _ n.awaited h);
   minded = λ s h. absurd (both_ways _ n.dozing h);
-  looked_after = λ x q. none_some q;
+  looked_after = λ x q. absurd (none-some x q);
 }

@@ -16,7 +16,7 @@ use Rattle.queue_words.specs.declared.record.Successor.TheVariants.{Nobody, Read
 use Rattle.queue_words.specs.declared.standing.Standing.{Standing}
 use Rattle.queue_words.specs.declared.standing.Standing.TheVariants.{I, W1, W2, W3, W4, W5, W6, W7, W8, WriterH, V1, V2, V3, V4, V5, V6, R1, R2, R3, R4, R5, R6, R7, R8, R9, R10, R11, R12, R13, ReaderH, E1, E2, E3, E4, E5, E6, E7, E8, E9, E10}
 use Rattle.queue_words.specs.declared.words.Words.{Words}
-use Rattle.queue_lock.specs.Config.{Config, config}
+use Rattle.queue_lock.specs.Config.{Full, Config, config}
 use Rattle.queue_lock.specs.Invariant.{Inv}
 use Rattle.queue_lock.specs.Sets as is
 use Rattle.queue_lock.specs.Alter as alter
@@ -30,7 +30,7 @@ use Rattle.queue_lock.specs.Rows.{row, row_of}
 use Rattle.queue_lock.specs.Turn.{Turn, stood, waked, marked, joined}
 use Rattle.queue_lock.specs.Turn as to
 use Rattle.queue_lock.specs.V6 as writer-hands
-use Rattle.queue_lock.specs.View.{Full, full_put, puts, stands, unchanged, twice, few}
+use Rattle.queue_lock.specs.View.{full_put, puts, stands, unchanged, twice, few}
 
 -- an option is none or some slot
 some_or_none : (o : Option ℕ) → (o ≡ None) ⊎ ((n : ℕ) × (o ≡ Some n))
@@ -39,30 +39,26 @@ some_or_none (Some n) = inr (n, refl)
 
 -- it is slot i or not, as the test says
 pub the_slot_or_not : (i : ℕ) (o : Option ℕ) → ((o ≡ Some i) × (is_slot i o ≡ true)) ⊎ ((o ≢ Some i) × (is_slot i o ≡ false))
-the_slot_or_not i None = inr (λ q. let z : ◌≡◌ {A = ℕ} 0 1 = cc in omega arith, refl)
+the_slot_or_not i None = inr (λ q. cc, refl)
 the_slot_or_not i (Some x) = elim (cases_eq x i) [
   | inl e ↦ inl (ap Some e, eq-eqb x i e)
   | inr d ↦ inr (λ q. d (cc), ne_eqb x i d)
 ]
 
-class_cases : (c : Class) → (c ≡ Reading) ⊎ (c ≡ Writing)
-class_cases Reading = inl refl
-class_cases Writing = inr refl
-
 reader_or_not : (s : Successor) → ((s ≡ Reader) × (is_reader s ≡ true)) ⊎ ((s ≢ Reader) × (is_reader s ≡ false))
-reader_or_not Nobody = inr (λ q. let z : ◌≡◌ {A = ℕ} 0 1 = cc in omega arith, refl)
+reader_or_not Nobody = inr (λ q. cc, refl)
 reader_or_not Reader = inl (refl, refl)
-reader_or_not Writer = inr (λ q. let z : ◌≡◌ {A = ℕ} 0 1 = cc in omega arith, refl)
+reader_or_not Writer = inr (λ q. cc, refl)
 
 writer_or_not : (s : Successor) → ((s ≡ Writer) × (is_writer s ≡ true)) ⊎ ((s ≢ Writer) × (is_writer s ≡ false))
-writer_or_not Nobody = inr (λ q. let z : ◌≡◌ {A = ℕ} 0 1 = cc in omega arith, refl)
-writer_or_not Reader = inr (λ q. let z : ◌≡◌ {A = ℕ} 0 1 = cc in omega arith, refl)
+writer_or_not Nobody = inr (λ q. cc, refl)
+writer_or_not Reader = inr (λ q. cc, refl)
 writer_or_not Writer = inl (refl, refl)
 
 alone_or_not : (b : Bool) (s : Successor) → ((b ≡ true) × (s ≡ Nobody) × (is_blocked_alone (record { blocked = b; successor = s }) ≡ true)) ⊎ ((b ≡ true → s ≢ Nobody) × (is_blocked_alone (record { blocked = b; successor = s }) ≡ false))
 alone_or_not true Nobody = inl (refl, refl, refl)
-alone_or_not true Reader = inr (λ _ q. let z : ◌≡◌ {A = ℕ} 0 1 = cc in omega arith, refl)
-alone_or_not true Writer = inr (λ _ q. let z : ◌≡◌ {A = ℕ} 0 1 = cc in omega arith, refl)
+alone_or_not true Reader = inr (λ _ q. cc, refl)
+alone_or_not true Writer = inr (λ _ q. cc, refl)
 alone_or_not false s = inr (λ q _. both_ways false refl q, refl)
 
 module _ (w : Words) (l : List ℕ) (i : ℕ) (f : Full w) (lt : i < 32) (v : Inv (config w l)) where
@@ -155,7 +151,7 @@ module _ (w : Words) (l : List ℕ) (i : ℕ) (f : Full w) (lt : i < 32) (v : In
   v3 e = elim (some_or_none (slot w i).next) [ inl h ↦ to.v3_none e h (ap (λ m. config m l) (ap (λ y. stand w i (cond y V3 V4)) (ap is_none h) ∙ unchanged w i V3 e)) | inr n ↦ to.v3_some e n.0 n.1 (way _ false V3 V4 (ap is_none n.1)) ]
 
   v4 : stands_at w i ≡ V4 → Turn c i (config (stepped_at V4 w i) (arrives (phase_of V4) i l))
-  v4 e = let n = after (row_of e).linked in let q = ap (class_at w) n.1 in elim (class_cases (c.at n.0).class) [ inl h ↦ to.v4_reads e n.0 n.1 h (ap (λ k. config (stand w i (by_class k V5 V6)) l) (q ∙ h) ∙ stands w l i V5 f lt) | inr h ↦ to.v4_writes e n.0 n.1 h (ap (λ k. config (stand w i (by_class k V5 V6)) l) (q ∙ h) ∙ stands w l i V6 f lt) ]
+  v4 e = let n = after (row_of e).linked in let q = ap (class_at w) n.1 in elim (fact.class_cases (c.at n.0).class) [ inl h ↦ to.v4_reads e n.0 n.1 h (ap (λ k. config (stand w i (by_class k V5 V6)) l) (q ∙ h) ∙ stands w l i V5 f lt) | inr h ↦ to.v4_writes e n.0 n.1 h (ap (λ k. config (stand w i (by_class k V5 V6)) l) (q ∙ h) ∙ stands w l i V6 f lt) ]
 
   v5 : stands_at w i ≡ V5 → Turn c i (config (stepped_at V5 w i) (arrives (phase_of V5) i l))
   v5 e = to.v5 e (counts V6 _ _ up)
@@ -170,7 +166,7 @@ module _ (w : Words) (l : List ℕ) (i : ℕ) (f : Full w) (lt : i < 32) (v : In
   r2 e = to.r2 e (counts R9 _ _ up)
 
   r3 : stands_at w i ≡ R3 → Turn c i (config (stepped_at R3 w i) (arrives (phase_of R3) i l))
-  r3 e = let p = before (row_of e).unlinked in let q = ap (class_at w) p.1.0 in elim (class_cases (c.at p.0).class) [ inl h ↦ to.r3_reads e p.0 p.1.0 h (ap (λ k. config (stand w i (by_class k R4 R5)) l) (q ∙ h) ∙ stands w l i R4 f lt) | inr h ↦ to.r3_writes e p.0 p.1.0 h (ap (λ k. config (stand w i (by_class k R4 R5)) l) (q ∙ h) ∙ stands w l i R5 f lt) ]
+  r3 e = let p = before (row_of e).unlinked in let q = ap (class_at w) p.1.0 in elim (fact.class_cases (c.at p.0).class) [ inl h ↦ to.r3_reads e p.0 p.1.0 h (ap (λ k. config (stand w i (by_class k R4 R5)) l) (q ∙ h) ∙ stands w l i R4 f lt) | inr h ↦ to.r3_writes e p.0 p.1.0 h (ap (λ k. config (stand w i (by_class k R4 R5)) l) (q ∙ h) ∙ stands w l i R5 f lt) ]
 
   r4 : stands_at w i ≡ R4 → Turn c i (config (stepped_at R4 w i) (arrives (phase_of R4) i l))
   r4 e = let p = before (row_of e).unlinked in let q = ap (λ o. config (words.note_if_alone w i o R5 R7) l) p.1.0 in elim (alone_or_not (c.at p.0).state.blocked (c.at p.0).state.successor) [ inl h ↦ to.r4_done e p.0 p.1.0 h.0 h.1 (q ∙ ap (λ y. config (cond y (words.note (stand w i R5) (Some p.0) Reader) (stand w i R7)) l) h.2 ∙ notes R5 _ p.0 Reader refl p.1.1) | inr h ↦ to.r4_other e p.0 p.1.0 h.0 (q ∙ ap (λ y. config (cond y (words.note (stand w i R5) (Some p.0) Reader) (stand w i R7)) l) h.1 ∙ stands w l i R7 f lt) ]

@@ -1,6 +1,7 @@
 -- What a step leaves as it was: of every other slot all that a hand-over reads, of the slot that steps its pred, next and block.
-use Rattle.std.proofs.Common.{◌≡◌, ℕ, true, false, ◌⊎◌, Some, None, Option, sym, refl, ap, ◌∙◌, subst, inl, inr, arith}
+use Rattle.std.proofs.Common.{◌≡◌, ℕ, true, false, ◌⊎◌, Some, None, Option, sym, refl, ap, ◌∙◌, subst, inl, inr}
 use Rattle.std.proofs.lemmas.Bool.{cases_eq, both_ways}
+use Rattle.std.proofs.lemmas.Option.{none-some}
 use Rattle.queue_words.specs.Records.{relabelled, freed, noted, linked, keeping}
 use Rattle.queue_words.specs.declared.record.Record.{Record}
 use Rattle.queue_words.specs.declared.record.Successor.{Successor}
@@ -30,15 +31,12 @@ pub record Keeps (f g : ℕ → Record) (i : ℕ) : Type 0 where
   pub others : (s : ℕ) → (s ≡ i → ⊥) → Later (f s) (g s)
   pub own : (is.awaited (f i).standing ≡ true) ⊎ (owes (f i) ≡ true) → Kept (f i) (g i)
 
-some_none : {n : ℕ} → Some n ≡ None → ⊥
-some_none {n} e = let z : ◌≡◌ {A = ℕ} 0 1 = cc in omega arith
-
-pub is_some : (o : Option ℕ) (n : ℕ) → (o ≡ Some n) ⊎ (o ≡ Some n → ⊥)
-is_some None n = inr (λ e. some_none (sym e))
-is_some (Some m) n = elim (cases_eq m n) [ inl e ↦ inl (ap Some e) | inr d ↦ inr (λ e. d cc) ]
+pub slot_or_not : (o : Option ℕ) (n : ℕ) → (o ≡ Some n) ⊎ (o ≡ Some n → ⊥)
+slot_or_not None n = inr (λ e. none-some n e)
+slot_or_not (Some m) n = elim (cases_eq m n) [ inl e ↦ inl (ap Some e) | inr d ↦ inr (λ e. d cc) ]
 
 pub none_before : {a b : Record} → Kept a b → b.next ≡ None → a.next ≡ None
-none_before {a} {b} k e = elim a.next as (λ o. ((n : ℕ) → o ≡ Some n → b.next ≡ Some n) → o ≡ None) [ None ↦ λ _. refl | Some n ↦ λ h. absurd (some_none (sym (h n refl) ∙ e)) ] k.next
+none_before {a} {b} k e = elim a.next as (λ o. ((n : ℕ) → o ≡ Some n → b.next ≡ Some n) → o ≡ None) [ None ↦ λ _. refl | Some n ↦ λ h. absurd (none-some n (sym e ∙ h n refl)) ] k.next
 
 module _ {f g : ℕ → Record} {i : ℕ} (k : Keeps f g i) where
   pub kept : (s : ℕ) → (is.awaited (f s).standing ≡ true) ⊎ (owes (f s) ≡ true) → Kept (f s) (g s)
@@ -85,7 +83,7 @@ pub freed_later : (e : Record) → Later e (freed e)
 freed_later e = record { kept = record { pred = refl; next = λ _ q. q; blocked = λ q. absurd (both_ways false refl q) }; standing = refl; w = refl; owing = λ q. q }
 
 pub linked_later : (e : Record) (n : ℕ) → e.next ≡ None → Later e (linked e n)
-linked_later e n z = record { kept = record { pred = refl; next = λ m q. absurd (some_none (sym q ∙ z)); blocked = λ q. q }; standing = refl; w = refl; owing = λ q. q }
+linked_later e n z = record { kept = record { pred = refl; next = λ m q. absurd (none-some m (sym z ∙ q)); blocked = λ q. q }; standing = refl; w = refl; owing = λ q. q }
 
 pub noted_later : (e : Record) (a : Successor) → e.state.successor ≡ Nobody → Later e (noted e a)
 noted_later e a z =
@@ -95,6 +93,6 @@ noted_later e a z =
       w = refl;
       owing = λ h. owing_by e.class e.state.successor e.standing h (owes (noted e a) ≡ true)
           (λ c q. owing_writer e.class a e.standing c q)
-          (λ _ r _. let y : ◌≡◌ {A = ℕ} 0 1 = cc (z, r) in absurd (omega arith))
-          (λ _ r _. let y : ◌≡◌ {A = ℕ} 0 1 = cc (z, r) in absurd (omega arith));
+          (λ _ r _. absurd (cc (z, r)))
+          (λ _ r _. absurd (cc (z, r)));
     }

@@ -1,4 +1,5 @@
 -- V2: a writer in the way finds itself the tail: nobody is in line, and the lock is left empty.
+use Rattle.std.specs.Prelude.{is_some}
 use Rattle.std.proofs.Common.{◌≡◌, ℕ, ◌<◌, true, false, ltb, length, Some, None, sym, refl, ap, ◌∙◌, subst, inl, inr, arith}
 use Rattle.std.proofs.lemmas.Bool.{both_ways, cases_eq, lt-ltb}
 use Rattle.queue_words.specs.Records.{relabelled}
@@ -7,7 +8,7 @@ use Rattle.queue_words.specs.declared.standing.Standing.{Standing}
 use Rattle.queue_words.specs.declared.standing.Standing.TheVariants.{I, V2}
 use Rattle.queue_lock.specs.Sets as is
 use Rattle.queue_lock.specs.Config.{Config}
-use Rattle.queue_lock.specs.Invariant.{Inv, Own, In, has, owes, share, share_of, next_share}
+use Rattle.queue_lock.specs.Invariant.{Inv, Own, In, owes, share, share_of, next_share}
 use Rattle.queue_lock.specs.Places.{pos}
 use Rattle.queue_lock.specs.Alter as alter
 use Rattle.queue_lock.specs.Every.{implies}
@@ -16,7 +17,7 @@ use Rattle.queue_lock.specs.Looks.{stays}
 use Rattle.queue_lock.specs.Name.{untailed}
 use Rattle.queue_lock.specs.Rows.{Row, row, row_of}
 use Rattle.queue_lock.specs.Shares.{next_share_same, owing_by}
-use Rattle.queue_lock.specs.Sums.{total_one}
+use Rattle.lined_lock.specs.Totals.{total_one}
 use Rattle.queue_lock.specs.Turn.{stood}
 
 fetching_writeway : (l : Standing) → is.fetching l ≡ true → is.writeway l ≡ true
@@ -111,7 +112,7 @@ module _ (w : Config) (i : ℕ) (v : Inv w) (lt : i < 32) (e : (w.at i).standing
     owed = λ p s h q. absurd (free p s h q);
     owed_unnamed = λ p s h q _. free p s h q;
     pairs = λ p s q. absurd (elim q.1 [ inl h ↦ follows s h | inr h ↦ free p s h.1 h.0 ]);
-    tailed = λ t q. absurd (fact.nobody None (ap has q) refl);
+    tailed = λ t q. absurd (fact.nobody None (ap is_some q) refl);
     untailed = λ _. ((λ y h. absurd (nobody y h)), clear);
     one_leaves = λ t u h d. absurd (both_ways _ (clear t) h);
     counted = let t = total_one (share_of w) (share_of f) i 32 others lt in let g = v.counted in let k = stays w i V2 I v o n refl in omega arith;

@@ -17,7 +17,7 @@ use Rattle.queue_words.specs.Records.{freed}
 use Rattle.queue_lock.specs.Every.{implies, apart}
 use Rattle.queue_lock.specs.Facts as fact
 use Rattle.queue_lock.specs.Shares.{owing_writer, owing_by, share_asleep, share_awake, share_writer}
-use Rattle.queue_lock.specs.Sums.{total_at}
+use Rattle.lined_lock.specs.Totals.{total_at}
 use Rattle.queue_lock.specs.Move.{moved, Roles, relabel, no_waking, no_unlinked, at_here, at_there, to_there}
 use Rattle.queue_lock.specs.Alter.{altered}
 use Rattle.queue_lock.specs.Alter as alter

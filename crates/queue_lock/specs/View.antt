@@ -1,5 +1,5 @@
 -- Writes to the words are changes of the configuration.
-use Rattle.std.specs.Prelude.{◌≡◌, ℕ, zero, suc, ◌*◌, ◌<◌, ◌≤◌, List, [], length, replicate, Some, None, Option, ◌==◌, slice_set, refl}
+use Rattle.std.specs.Prelude.{◌≡◌, ℕ, ◌<◌, ◌≤◌, List, [], length, Some, None, Option, ◌==◌, slice_set}
 use Rattle.std.proofs.Common.{sym, ap, ◌∙◌, inl, inr, arith, length-set, get_or-set_same, get_or-set_other}
 use Rattle.std.proofs.Math.Path.{fun_ext}
 use Rattle.std.proofs.lemmas.List.{set-get_or}
@@ -11,7 +11,9 @@ use Rattle.queue_words.specs.Steps.{slot, put, stand, fresh_words}
 use Rattle.queue_words.specs.declared.record.Record.{Record}
 use Rattle.queue_words.specs.declared.standing.Standing.{Standing}
 use Rattle.queue_words.specs.declared.words.Words.{Words}
-use Rattle.queue_lock.specs.Config.{Config, config, upd, total}
+use Rattle.lined_lock.specs.Tables.{all_alike}
+use Rattle.lined_lock.specs.Totals.{total_le}
+use Rattle.queue_lock.specs.Config.{Config, Full, config, upd}
 use Rattle.queue_lock.specs.Invariant.{Inv, share, share_of, one_if, next_share}
 use Rattle.queue_lock.specs.Alter.{altered}
 use Rattle.queue_lock.specs.Safety.{fresh}
@@ -23,10 +25,6 @@ written xs k r h = fun_ext (λ j. elim (cases_eq j k) [
   | inl q ↦ ap (record_at (slice_set xs k r)) q ∙ get_or-set_same xs k r unused h ∙ sym (cond-true (j == k) r (record_at xs j) (eq-eqb j k q))
   | inr d ↦ get_or-set_other xs k j r unused d ∙ sym (cond-false (j == k) r (record_at xs j) (ne_eqb j k d))
 ])
-
--- the table has a record for each of the 32 slots
-abbrev pub Full : Words → Type 0
-Full w = length w.table.slots ≡ 32
 
 pub full_put : (w : Words) (k : ℕ) (r : Record) → Full w → Full (put w k r)
 full_put w k r f = length-set w.table.slots k r ∙ f
@@ -62,19 +60,9 @@ share_le : (e : Record) (n : ℕ) → n ≤ 1 → share e n ≤ 2
 unfolding share
 share_le e n h = grind arith
 
-total_le : (f : ℕ → ℕ) (n : ℕ) → ((j : ℕ) → f j ≤ 2) → total f n ≤ 2 * n
-unfolding total
-total_le f zero h = omega arith
-total_le f (suc n) h = let t = total_le f n h in let k = h n in omega arith
-
 pub few : (w : Config) → Inv w → w.reader_count ≤ 64
-few w v = let t = total_le (share_of w) 32 (λ j. share_le (w.at j) _ (next_le w (w.at j).next)) in omega (arith, v.counted)
+few w v = let t = total_le (share_of w) 2 32 (λ j. share_le (w.at j) _ (next_le w (w.at j).next)) in omega (arith, v.counted)
 
 -- the configuration of fresh words
-all_unused : (n j : ℕ) → record_at (replicate n unused) j ≡ unused
-all_unused zero j = refl
-all_unused (suc n) zero = refl
-all_unused (suc n) (suc j) = all_unused n j
-
 pub starts : config fresh_words [] ≡ fresh
-starts = ap {B = Config} (λ f. record { at = f; tail = None; next_writer = None; reader_count = 0; line = [] }) (fun_ext (λ j. all_unused 32 j))
+starts = ap {B = Config} (λ f. record { at = f; tail = None; next_writer = None; reader_count = 0; line = [] }) (fun_ext (λ j. all_alike unused 32 j))

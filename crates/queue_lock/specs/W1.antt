@@ -1,4 +1,5 @@
 -- W1 and R1: a slot arrives, behind nobody (W2, R2) or behind the old tail (W6, R3).
+use Rattle.std.specs.Prelude.{is_some}
 use Rattle.std.proofs.Common.{◌≡◌, ℕ, ◌<◌, Bool, true, false, cond, List, [], ◌∷◌, Some, None, sym, refl, ◌∙◌, arith}
 use Rattle.lock.specs.declared.words.Class.{Class}
 use Rattle.lock.specs.declared.words.Class.TheVariants.{Reading, Writing}
@@ -9,7 +10,7 @@ use Rattle.queue_words.specs.declared.standing.Standing.{Standing}
 use Rattle.queue_words.specs.declared.standing.Standing.TheVariants.{W1, W2, W6, R1, R2, R3}
 use Rattle.queue_lock.specs.Sets as is
 use Rattle.queue_lock.specs.Config.{Config}
-use Rattle.queue_lock.specs.Invariant.{Inv, Own, has}
+use Rattle.queue_lock.specs.Invariant.{Inv, Own}
 use Rattle.queue_lock.specs.Arrive.{arrived, arrive}
 use Rattle.queue_lock.specs.Plain.{all, get, deny}
 use Rattle.queue_lock.specs.Rows.{Row, row, row_of}
@@ -63,11 +64,11 @@ module _ (w : Config) (i : ℕ) (v : Inv w) (lt : i < 32) where
   pub writer_first : (w.at i).standing ≡ W1 → w.tail ≡ None → Inv (arrived w i (fresh w i W2 Writing))
   writer_first e z = let n = row W2 in comes w i W1 W2 Writing v lt (row_of e) n refl (grind (arith, n)) (λ _. z) (λ t h q _. asked e t h q)
 
-  pub writer_behind : (w.at i).standing ≡ W1 → has w.tail ≡ true → Inv (arrived w i (fresh w i W6 Writing))
+  pub writer_behind : (w.at i).standing ≡ W1 → is_some w.tail ≡ true → Inv (arrived w i (fresh w i W6 Writing))
   writer_behind e z = let n = row W6 in comes w i W1 W6 Writing v lt (row_of e) n refl (grind (arith, n)) (λ h. absurd (both_ways _ n.admitted h)) (λ t h q _. asked e t h q)
 
   pub reader_first : (w.at i).standing ≡ R1 → w.tail ≡ None → Inv (arrived w i (fresh w i R2 Reading))
   reader_first e z = let n = row R2 in comes w i R1 R2 Reading v lt (row_of e) n refl (grind (arith, n)) (λ _. z) (λ _ _ _ h. both_ways _ n.wanting h)
 
-  pub reader_behind : (w.at i).standing ≡ R1 → has w.tail ≡ true → Inv (arrived w i (fresh w i R3 Reading))
+  pub reader_behind : (w.at i).standing ≡ R1 → is_some w.tail ≡ true → Inv (arrived w i (fresh w i R3 Reading))
   reader_behind e z = let n = row R3 in comes w i R1 R3 Reading v lt (row_of e) n refl (grind (arith, n)) (λ h. absurd (both_ways _ n.admitted h)) (λ _ _ _ h. both_ways _ n.wanting h)

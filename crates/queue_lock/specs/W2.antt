@@ -15,9 +15,6 @@ use Rattle.queue_lock.specs.Move.{moved, Roles, relabel, no_waking, no_unlinked,
 use Rattle.queue_lock.specs.Alter as alter
 use Rattle.queue_lock.specs.Name.{named, Names, name}
 
-some_inj : (n m : ℕ) → Some n ≡ Some m → n ≡ m
-some_inj n m e = cc
-
 module _ (w : Config) (i : ℕ) (v : Inv w) (lt : i < 32) (e : (w.at i).standing ≡ W2) where
   o : Row (w.at i).standing W2
   o = row_of e
@@ -83,15 +80,15 @@ module _ (w : Config) (i : ℕ) (v : Inv w) (lt : i < 32) (e : (w.at i).standing
 
   names : Names mid (Some i)
   names = record {
-    next = λ x q. subst (λ y. Waits (mid.at y) × Front mid y) (some_inj i x q) (alter.to_here w i (relabelled (w.at i) W3) w.reader_count Waits i refl (record { standing = (row W3).waiting; on = on }), last.front (lasts w i W3 v roles w.reader_count) front);
+    next = λ x q. subst (λ y. Waits (mid.at y) × Front mid y) (fact.some_inj i x q) (alter.to_here w i (relabelled (w.at i) W3) w.reader_count Waits i refl (record { standing = (row W3).waiting; on = on }), last.front (lasts w i W3 v roles w.reader_count) front);
     waking = λ t h. absurd (elim (cases_eq t i) [
       | inl z ↦ both_ways _ (row W3).waking (at_here w i W3 w.reader_count (λ y. is.waking y.standing ≡ true) t z h)
       | inr d ↦ not_woken t (at_there w i W3 w.reader_count (λ y. is.waking y.standing ≡ true) t d h)
     ]);
     asking = λ t x h z k a. elim a [ inl b ↦ inl b | inr b ↦ absurd (not_next x b.1) ];
     owed = λ p s h z k. elim (cases_eq p i) [
-      | inl y ↦ fact.owed_apart mid mid_inv p s h z (sym (some_inj i s k) ∙ sym y)
-      | inr d ↦ both_ways _ (row W3).sleeping (at_here w i W3 w.reader_count (λ y. is.sleeping y.standing ≡ true) s (sym (some_inj i s k)) (mid_inv.owed p s h z).standing)
+      | inl y ↦ fact.owed_apart mid mid_inv p s h z (sym (fact.some_inj i s k) ∙ sym y)
+      | inr d ↦ both_ways _ (row W3).sleeping (at_here w i W3 w.reader_count (λ y. is.sleeping y.standing ≡ true) s (sym (fact.some_inj i s k)) (mid_inv.owed p s h z).standing)
     ];
   }
 

@@ -1,9 +1,10 @@
 -- W4: a writer that is alone takes the next writer away, and lets itself in if it was that one; else it waits.
+use Rattle.std.specs.Prelude.{is_some}
 use Rattle.std.proofs.Common.{◌≡◌, ℕ, ◌+◌, ◌<◌, true, Some, None, sym, refl, ap, subst, inl, inr, arith}
 use Rattle.lock.specs.declared.words.Class.TheVariants.{Writing}
 use Rattle.queue_words.specs.declared.standing.Standing.TheVariants.{W4, W5, W8}
 use Rattle.queue_lock.specs.Config.{Config}
-use Rattle.queue_lock.specs.Invariant.{Inv, Alone, has, share, share_of}
+use Rattle.queue_lock.specs.Invariant.{Inv, Alone, share, share_of}
 use Rattle.queue_lock.specs.Facts as fact
 use Rattle.queue_lock.specs.Lasts as last
 use Rattle.queue_lock.specs.Looks.{goes}
@@ -26,10 +27,10 @@ module _ (u : Config) (i : ℕ) (iv : Inv u) (lt : i < 32) (e : (u.at i).standin
 
   names : Names u None
   names = record {
-    next = λ y h. absurd (fact.nobody None (ap has h) refl);
+    next = λ y h. absurd (fact.nobody None (ap is_some h) refl);
     waking = λ t h. refl;
     asking = λ t y h g k a. elim a [ inl b ↦ inl b | inr b ↦ inl (subst (Alone u) (sym (next y b.1)) alone) ];
-    owed = λ p s h g k. fact.nobody None (ap has k) refl;
+    owed = λ p s h g k. fact.nobody None (ap is_some k) refl;
   }
 
   abbrev w : Config
@@ -61,8 +62,8 @@ module _ (u : Config) (i : ℕ) (iv : Inv u) (lt : i < 32) (e : (u.at i).standin
           admitted = λ h a. v.front i h (rw on o.admitted);
           only = λ h k a. v.alone i h k (rw on o.only);
           waking = no_waking n.waking;
-          woken = λ t _ h q. absurd (fact.nobody u.next_writer (ap has z) (iv.woken_unnamed t h));
-          waiting = λ q. absurd (fact.nobody None (ap has q) refl);
+          woken = λ t _ h q. absurd (fact.nobody u.next_writer (ap is_some z) (iv.woken_unnamed t h));
+          waiting = λ q. absurd (fact.nobody None (ap is_some q) refl);
           asking = grind (arith, o, n);
           apart = grind (arith, o, n);
           asked = λ t _ h q k. (o.wanting, n.askable);

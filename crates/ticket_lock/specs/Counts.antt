@@ -2,12 +2,10 @@
 use Rattle.std.specs.Prelude.{◌≡◌, ℕ, zero, suc, ◌+◌, ◌*◌, ◌%◌, ◌<◌, ◌≤◌, Bool, true, false, cond, List, [], ◌∷◌, ◌++◌, length, ◌==◌, ◌≢◌, refl}
 use Rattle.std.proofs.Common.{sym, ap, ◌∙◌, inl, inr, arith}
 use Rattle.std.proofs.lemmas.Bool.{eq-eqb, ne_eqb, eqb-true, cases_eq, cases_lt}
+use Rattle.lined_lock.specs.Totals.{total, total_le}
+use Rattle.lined_lock.specs.Lines.{without_hit, without_miss}
 use Rattle.lock.specs.Line.{without}
-use Rattle.ticket_lock.specs.Order.{times, before, among, adv}
-
--- two constructors are never equal
-pub no : {X : Type 0} → ◌≡◌ {A = ℕ} 0 1 → X
-no e = absurd (omega arith)
+use Rattle.ticket_lock.specs.Order.{times, before, adv}
 
 -- the head of a line is the slot that is asked for, or another
 pub times_hit : (x i : ℕ) (l : List ℕ) → x ≡ i → times i (x ∷ l) ≡ suc (times i l)
@@ -21,12 +19,6 @@ before_hit f x i l e = ap (λ b. cond b 0 (f x + before f i l)) (eq-eqb x i e)
 
 pub before_miss : (f : ℕ → ℕ) (x i : ℕ) (l : List ℕ) → (x ≢ i) → before f i (x ∷ l) ≡ f x + before f i l
 before_miss f x i l n = ap (λ b. cond b 0 (f x + before f i l)) (ne_eqb x i n)
-
-without_hit : (x i : ℕ) (l : List ℕ) → x ≡ i → without i (x ∷ l) ≡ without i l
-without_hit x i l e = ap (λ b. cond b (without i l) (x ∷ without i l)) (eq-eqb x i e)
-
-without_miss : (x i : ℕ) (l : List ℕ) → (x ≢ i) → without i (x ∷ l) ≡ x ∷ without i l
-without_miss x i l n = ap (λ b. cond b (without i l) (x ∷ without i l)) (ne_eqb x i n)
 
 -- one more at the end
 pub times_end_own : (i : ℕ) (l : List ℕ) → times i (l ++ (i ∷ [])) ≡ suc (times i l)
@@ -262,7 +254,7 @@ heads [] x = false
 heads (y ∷ l) x = y == x
 
 pub head_times : (l : List ℕ) (x : ℕ) → heads l x ≡ true → 1 ≤ times x l
-head_times [] x e = no (cc)
+head_times [] x e = absurd (cc)
 head_times (y ∷ l) x e = let t = times_hit y x l (eqb-true y x e) in omega arith
 
 pub head_before : (f : ℕ → ℕ) (l : List ℕ) (x : ℕ) → heads l x ≡ true → before f x l ≡ 0
@@ -270,7 +262,7 @@ head_before f [] x e = refl
 head_before f (y ∷ l) x e = before_hit f y x l (eqb-true y x e)
 
 pub head_end : (l : List ℕ) (i x : ℕ) → heads l x ≡ true → heads (l ++ (i ∷ [])) x ≡ true
-head_end [] i x e = no (cc)
+head_end [] i x e = absurd (cc)
 head_end (y ∷ l) i x e = e
 
 pub head_some : (l : List ℕ) (j : ℕ) → 1 ≤ times j l → (x : ℕ) × (heads l x ≡ true)
@@ -286,7 +278,7 @@ before_mono f g j (x ∷ l) q = let h = before_mono f g j l q in let p = q x in 
 
 -- the first slot's share falls
 pub before_falls : (f g : ℕ → ℕ) (i j : ℕ) (l : List ℕ) → heads l i ≡ true → (i ≢ j) → ((x : ℕ) → g x ≤ f x) → g i < f i → before g j l < before f j l
-before_falls f g i j [] e n q h = no (cc)
+before_falls f g i j [] e n q h = absurd (cc)
 before_falls f g i j (x ∷ l) e n q h =
     let y = eqb-true x i e in
     let m : x ≡ j → ⊥ = λ z. n (sym y ∙ z) in
@@ -305,53 +297,21 @@ before_few f c j (x ∷ l) q m = elim (cases_eq x j) [
   | inr n ↦ let t = times_miss x j l n in let a = before_miss f x j l n in let h = before_few f c j l q (omega arith) in let u = q x in omega arith
 ]
 
--- sums over the slots
-among_below : (f g : ℕ → ℕ) (n : ℕ) → ((x : ℕ) → x < n → g x ≡ f x) → among g n ≡ among f n
-unfolding among
-among_below f g zero q = refl
-among_below f g (suc n) q = let a = q n (omega arith) in let h = among_below f g n (λ x l. q x (omega arith)) in omega arith
-
-pub among_moved : (f g : ℕ → ℕ) (i n : ℕ) → ((x : ℕ) → (x ≢ i) → g x ≡ f x) → i < n → among g n + f i ≡ among f n + g i
-unfolding among
-among_moved f g i zero q h = absurd (omega arith)
-among_moved f g i (suc n) q h = elim (cases_eq n i) [
-  | inl e ↦ let a = among_below f g n (λ x l. q x (λ z. omega arith)) in let b = ap f e in let c = ap g e in omega arith
-  | inr u ↦ let a = among_moved f g i n q (omega arith) in let b = q n u in omega arith
+-- sums over the slots, with nothing from n on
+pub total_few : (f : ℕ → ℕ) (m n : ℕ) → ((x : ℕ) → f x ≤ 1) → ((x : ℕ) → n ≤ x → f x ≡ 0) → total f m ≤ n
+unfolding total
+total_few f zero n o q = omega arith
+total_few f (suc m) n o q = elim (cases_lt m n) [
+  | inl l ↦ let a = total_le f 1 m o in let b = o m in omega arith
+  | inr g ↦ let a = total_few f m n o q in let b = q m g in omega arith
 ]
 
-pub among_at : (f : ℕ → ℕ) (i n : ℕ) → i < n → f i ≤ among f n
-unfolding among
-among_at f i zero h = absurd (omega arith)
-among_at f i (suc n) h = elim (cases_eq n i) [
-  | inl e ↦ let b = ap f e in omega arith
-  | inr u ↦ let a = among_at f i n (omega arith) in omega arith
-]
-
-pub among_none : (f : ℕ → ℕ) (n : ℕ) → ((x : ℕ) → f x ≡ 0) → among f n ≡ 0
-unfolding among
-among_none f zero q = refl
-among_none f (suc n) q = let a = q n in let h = among_none f n q in omega arith
-
-pub among_le : (f : ℕ → ℕ) (n : ℕ) → ((x : ℕ) → f x ≤ 1) → among f n ≤ n
-unfolding among
-among_le f zero o = omega arith
-among_le f (suc n) o = let h = among_le f n o in let u = o n in omega arith
-
--- with nothing from n on
-pub among_few : (f : ℕ → ℕ) (m n : ℕ) → ((x : ℕ) → f x ≤ 1) → ((x : ℕ) → n ≤ x → f x ≡ 0) → among f m ≤ n
-unfolding among
-among_few f zero n o q = omega arith
-among_few f (suc m) n o q = elim (cases_lt m n) [
-  | inl l ↦ let a = among_le f m o in let b = o m in omega arith
-  | inr g ↦ let a = among_few f m n o q in let b = q m g in omega arith
-]
-
-pub among_some : (f : ℕ → ℕ) (n : ℕ) → 1 ≤ among f n → (x : ℕ) × (1 ≤ f x)
-unfolding among
-among_some f zero h = absurd (omega arith)
-among_some f (suc n) h = elim (cases_lt 0 (f n)) [
+pub total_some : (f : ℕ → ℕ) (n : ℕ) → 1 ≤ total f n → (x : ℕ) × (1 ≤ f x)
+unfolding total
+total_some f zero h = absurd (omega arith)
+total_some f (suc n) h = elim (cases_lt 0 (f n)) [
   | inl l ↦ (n, omega arith)
-  | inr g ↦ among_some f n (omega arith)
+  | inr g ↦ total_some f n (omega arith)
 ]
 
 -- a half that is counted some times, fewer than it takes to come round, is another

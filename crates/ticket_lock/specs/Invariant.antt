@@ -35,7 +35,11 @@ pub record Sound (a : ℕ → Standing) (k : ℕ → ℕ) (r c : ℕ) (l : List 
   -- what each slot has kept fits where it stands
   pub fits : (i : ℕ) → Fits (a i) (k i) c (readers_ahead a l i) (writers_ahead a l i)
 
+-- the table has a place for each of the 32 slots
+abbrev pub Full : Words → Type 0
+Full w = length w.table.slots ≡ 32
+
 -- the invariant of the words and the line
 pub record Keeps (w : Words) (l : List ℕ) : Type 0 where
-  pub full : length w.table.slots ≡ 32
+  pub full : Full w
   pub sound : Sound (stands_at w) (kept_by w) w.requests w.completions l

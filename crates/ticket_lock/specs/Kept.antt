@@ -1,16 +1,17 @@
 -- Each move of a slot keeps the invariant of the words and the line.
-use Rattle.std.specs.Prelude.{◌≡◌, ℕ, zero, suc, ◌+◌, ◌<◌, ◌≤◌, Bool, true, false, cond, List, [], length, replicate, ◌==◌, ◌≢◌, slice_index_or, refl}
+use Rattle.std.specs.Prelude.{◌≡◌, ℕ, ◌+◌, ◌<◌, ◌≤◌, Bool, true, false, cond, List, [], length, ◌==◌, ◌≢◌, slice_index_or, refl}
 use Rattle.std.proofs.Common.{sym, ap, subst, ◌∙◌, arith, length-set, get_or-set_same, get_or-set_other}
 use Rattle.std.proofs.lemmas.Bool.{eqb-true}
+use Rattle.lined_lock.specs.Tables.{all_alike}
+use Rattle.lined_lock.specs.Totals.{total_le}
 use Rattle.lock.specs.Line.{arrives, without}
 use Rattle.lock.specs.Meaning.{steps_from}
 use Rattle.lock.specs.declared.words.Class.{Class}
 use Rattle.lock.specs.declared.words.Class.TheVariants.{Reading, Writing}
 use Rattle.lock.specs.declared.words.Phase.TheVariants.{Idle, Holds}
-use Rattle.ticket_lock.specs.Invariant.{Fits, Keeps}
+use Rattle.ticket_lock.specs.Invariant.{Fits, Full, Keeps}
 use Rattle.ticket_lock.specs.Lock.{phases}
 use Rattle.ticket_lock.specs.Order.{adv, reads, writes, read_leaves, write_leaves, readers_ahead, writers_ahead}
-use Rattle.ticket_lock.specs.Counts.{no, among_none}
 use Rattle.ticket_lock.specs.Sound.{Alone, line_few, no_writers, no_readers}
 use Rattle.ticket_lock.specs.Moves.{Alike, quiet, reader_in, writer_in, reader_out, writer_out, reader_quits, writer_quits}
 use Rattle.ticket_words.specs.Counting.{lower, upper, counted, reader_counted, writer_counted}
@@ -24,7 +25,7 @@ pub fit_at : {w : Words} {l : List ℕ} → Keeps w l → (i : ℕ) (x : Standin
 fit_at {w} {l} h i x e = subst (λ y. Fits y (kept_by w i) w.completions (readers_ahead (stands_at w) l i) (writers_ahead (stands_at w) l i)) e (h.sound.fits i)
 
 -- one slot's place is written
-module _ (w : Words) (i : ℕ) (x : Standing) (k r c : ℕ) (lt : i < 32) (full : length w.table.slots ≡ 32) where
+module _ (w : Words) (i : ℕ) (x : Standing) (k r c : ℕ) (lt : i < 32) (full : Full w) where
   abbrev after : Words
   after = written w i x k r c
 
@@ -46,7 +47,7 @@ module _ (w : Words) (i : ℕ) (x : Standing) (k r c : ℕ) (lt : i < 32) (full 
   alone : Alone (stands_at w) (stands_at after) (kept_by w) (kept_by after) i
   alone = record { slot = lt; stands = stands_there; keeps = kept_there }
 
-  full_after : length after.table.slots ≡ 32
+  full_after : Full after
   full_after = simp length-set full
 
 -- the halves of a word with one more counted
@@ -135,14 +136,14 @@ keeps_stepped w l i h lt m = step_at_keeps h i (stands_at w i) lt refl m
 
 pub idle_is : (x : Standing) → phase_of x ≡ Idle → x ≡ I
 idle_is I e = refl
-idle_is T1 e = no (cc)
-idle_is T2 e = no (cc)
-idle_is T3 e = no (cc)
-idle_is T4 e = no (cc)
-idle_is T5 e = no (cc)
-idle_is T6 e = no (cc)
-idle_is ReaderH e = no (cc)
-idle_is WriterH e = no (cc)
+idle_is T1 e = absurd (cc)
+idle_is T2 e = absurd (cc)
+idle_is T3 e = absurd (cc)
+idle_is T4 e = absurd (cc)
+idle_is T5 e = absurd (cc)
+idle_is T6 e = absurd (cc)
+idle_is ReaderH e = absurd (cc)
+idle_is WriterH e = absurd (cc)
 
 call_at_keeps : {w : Words} {l : List ℕ} → Keeps w l → (i : ℕ) (class : Class) → i < 32 → stands_at w i ≡ I → Keeps (written w i (called_standing I class) (kept_by w i) w.requests w.completions) l
 call_at_keeps h i Reading lt e = restands h i I T1 lt e (alike I T1 refl refl refl refl) tt
@@ -154,13 +155,13 @@ keeps_called w l i class h lt e =
     subst (λ x. Keeps (written w i (called_standing x class) (kept_by w i) w.requests w.completions) l) (sym z) (call_at_keeps h i class lt z)
 
 finish_at_keeps : {w : Words} {l : List ℕ} → Keeps w l → (i : ℕ) (x : Standing) → i < 32 → stands_at w i ≡ x → phase_of x ≡ Holds → Keeps (written w i (finished_standing x) (kept_by w i) w.requests w.completions) (without i l)
-finish_at_keeps h i I lt e m = no (cc)
-finish_at_keeps h i T1 lt e m = no (cc)
-finish_at_keeps h i T2 lt e m = no (cc)
-finish_at_keeps h i T3 lt e m = no (cc)
-finish_at_keeps h i T4 lt e m = no (cc)
-finish_at_keeps h i T5 lt e m = no (cc)
-finish_at_keeps h i T6 lt e m = no (cc)
+finish_at_keeps h i I lt e m = absurd (cc)
+finish_at_keeps h i T1 lt e m = absurd (cc)
+finish_at_keeps h i T2 lt e m = absurd (cc)
+finish_at_keeps h i T3 lt e m = absurd (cc)
+finish_at_keeps h i T4 lt e m = absurd (cc)
+finish_at_keeps h i T5 lt e m = absurd (cc)
+finish_at_keeps h i T6 lt e m = absurd (cc)
 finish_at_keeps {w} {l} h i ReaderH lt e m =
     let k = kept_by w i in let r = w.requests in let c = w.completions in
     record {
@@ -178,17 +179,15 @@ pub keeps_finished : (w : Words) (l : List ℕ) (i : ℕ) → Keeps w l → i < 
 keeps_finished w l i h lt m = finish_at_keeps h i (stands_at w i) lt refl m
 
 -- fresh words with nobody in line
-pub all_idle : (n j : ℕ) → (slice_index_or (replicate n unused) j unused).standing ≡ I
-all_idle zero j = refl
-all_idle (suc n) zero = refl
-all_idle (suc n) (suc j) = all_idle n j
+pub all_idle : (i : ℕ) → stands_at fresh_words i ≡ I
+all_idle i = ap (λ p. p.standing) (all_alike unused 32 i)
 
 pub keeps_begun : Keeps fresh_words []
 keeps_begun =
     let a = stands_at fresh_words in
-    let idle : (j : ℕ) → a j ≡ I = all_idle 32 in
-    let nr : readers_ahead a [] 32 ≡ 0 = let z = among_none (λ x. read_leaves (a x)) 32 (λ x. ap read_leaves (idle x)) in omega arith in
-    let nw : writers_ahead a [] 32 ≡ 0 = let z = among_none (λ x. write_leaves (a x)) 32 (λ x. ap write_leaves (idle x)) in omega arith in
+    let idle : (j : ℕ) → a j ≡ I = all_idle in
+    let nr : readers_ahead a [] 32 ≡ 0 = let z = total_le (λ x. read_leaves (a x)) 0 32 (λ x. let u = ap read_leaves (idle x) in omega arith) in omega arith in
+    let nw : writers_ahead a [] 32 ≡ 0 = let z = total_le (λ x. write_leaves (a x)) 0 32 (λ x. let u = ap write_leaves (idle x) in omega arith) in omega arith in
     record {
       full = refl;
       sound = record {

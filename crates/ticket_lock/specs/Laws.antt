@@ -1,15 +1,15 @@
 -- The ticket lock's moves mean what a lock's are to mean.
-use Rattle.std.specs.Prelude.{◌≡◌, ℕ, ◌+◌, ◌<◌, ◌≤◌, Bool, true, false, cond, ◌⊎◌, List, length, ◌==◌, ◌≢◌, refl}
+use Rattle.std.specs.Prelude.{◌≡◌, ℕ, ◌+◌, ◌<◌, ◌≤◌, Bool, true, false, cond, ◌⊎◌, List, ◌==◌, ◌≢◌, refl}
 use Rattle.std.proofs.Common.{sym, ap, subst, ◌∙◌, inl, inr, arith}
 use Rattle.lined_lock.specs.Standings.{call_means, step_means, finish_means}
-use Rattle.lock.specs.Meaning.{Meaning, meant, CalledIn, MayHold, Reaches, Stepped, Finished, steps_from}
+use Rattle.lock.specs.Meaning.{Meaning, Moved, meant, CalledIn, MayHold, Reaches, Stepped, Finished, steps_from}
 use Rattle.lock.specs.declared.words.Class.{Class}
 use Rattle.lock.specs.declared.words.Class.TheVariants.{Reading, Writing}
 use Rattle.lock.specs.declared.words.Phase.TheVariants.{Idle, Called, Waits, Holds, Leaves}
-use Rattle.ticket_lock.specs.Invariant.{Keeps}
+use Rattle.ticket_lock.specs.Invariant.{Full, Keeps}
 use Rattle.ticket_lock.specs.Lock.{phases, classes, bars}
 use Rattle.ticket_lock.specs.Order.{times, before, reads, writes, readers_ahead, writers_ahead}
-use Rattle.ticket_lock.specs.Counts.{no, one_first}
+use Rattle.ticket_lock.specs.Counts.{one_first}
 use Rattle.ticket_lock.specs.Kept.{fit_at, idle_is, all_idle, stands_here, stands_there, kept_there, reader_free, writer_free}
 use Rattle.ticket_words.specs.Counting.{lower}
 use Rattle.ticket_words.specs.Places.{phase_of, class_of}
@@ -21,20 +21,19 @@ use Rattle.ticket_words.specs.declared.words.Words.{Words}
 abbrev pub mean : Words → Meaning
 mean = meant phases classes bars
 
--- where slot i, and where each other slot, stands after a move
+-- where each slot stands after a move of slot i, and that the others have kept what they had
 pub record Becomes (w : Words) (i : ℕ) (x : Standing) (v : Words) : Type 0 where
-  pub here : stands_at v i ≡ x
-  pub others : (j : ℕ) → (j ≢ i) → stands_at v j ≡ stands_at w j
+  pub stands : Moved (stands_at w) i x (stands_at v)
   pub keeps : (j : ℕ) → (j ≢ i) → kept_by v j ≡ kept_by w j
 
-pub becomes : (w : Words) (i : ℕ) (x : Standing) (k r c : ℕ) → i < 32 → length w.table.slots ≡ 32 → Becomes w i x (written w i x k r c)
-becomes w i x k r c lt full = record { here = stands_here w i x k r c lt full; others = stands_there w i x k r c lt full; keeps = kept_there w i x k r c lt full }
+pub becomes : (w : Words) (i : ℕ) (x : Standing) (k r c : ℕ) → i < 32 → Full w → Becomes w i x (written w i x k r c)
+becomes w i x k r c lt full = record { stands = record { here = stands_here w i x k r c lt full; others = stands_there w i x k r c lt full }; keeps = kept_there w i x k r c lt full }
 
-pub called_becomes : (w : Words) (i : ℕ) (c : Class) → length w.table.slots ≡ 32 → i < 32 → phases w i ≡ Idle → Becomes w i (called_standing I c) (called w i c)
+pub called_becomes : (w : Words) (i : ℕ) (c : Class) → Full w → i < 32 → phases w i ≡ Idle → Becomes w i (called_standing I c) (called w i c)
 called_becomes w i c full lt e = subst (λ x. Becomes w i (called_standing x c) (called w i c)) (idle_is _ e) (becomes w i _ _ _ _ lt full)
 
 pub means_begun : (i : ℕ) → phases fresh_words i ≡ Idle
-means_begun i = ap phase_of (all_idle 32 i)
+means_begun i = ap phase_of (all_idle i)
 
 called_phase : (c : Class) → phase_of (called_standing I c) ≡ Called
 called_phase Reading = refl
@@ -47,17 +46,17 @@ called_class Writing = refl
 pub means_called : (w : Words) (l : List ℕ) (i : ℕ) (c : Class) → Keeps w l → i < 32 → phases w i ≡ Idle → (c ≡ Writing → bars w i ≡ false) → CalledIn (mean w) i c (mean (called w i c))
 means_called w l i c h lt e f =
     let b = called_becomes w i c h.full lt e in
-    call_means phase_of class_of (stands_at w) (stands_at (called w i c)) (bars w) (bars (called w i c)) i c e f b.others (ap phase_of b.here ∙ called_phase c) (ap class_of b.here ∙ called_class c)
+    call_means phase_of class_of (stands_at w) (stands_at (called w i c)) (bars w) (bars (called w i c)) i c _ e f b.stands (called_phase c) (called_class c)
 
 -- who holds
 pub holds_is : (x : Standing) → phase_of x ≡ Holds → (x ≡ ReaderH) ⊎ (x ≡ WriterH)
-holds_is I e = no (cc)
-holds_is T1 e = no (cc)
-holds_is T2 e = no (cc)
-holds_is T3 e = no (cc)
-holds_is T4 e = no (cc)
-holds_is T5 e = no (cc)
-holds_is T6 e = no (cc)
+holds_is I e = absurd (cc)
+holds_is T1 e = absurd (cc)
+holds_is T2 e = absurd (cc)
+holds_is T3 e = absurd (cc)
+holds_is T4 e = absurd (cc)
+holds_is T5 e = absurd (cc)
+holds_is T6 e = absurd (cc)
 holds_is ReaderH e = inl refl
 holds_is WriterH e = inr refl
 
@@ -76,7 +75,7 @@ module _ {w : Words} {l : List ℕ} (h : Keeps w l) where
   no_writer_holds i j e z d =
       let f = fit_at h j WriterH d in
       let p = f.1 in
-      clash writes reads i j T2 WriterH e d (λ q. no (let u = ap (stands_at w) q in cc)) (omega arith) (omega arith) (omega arith) (omega arith) (omega arith) (omega arith)
+      clash writes reads i j T2 WriterH e d (λ q. absurd (let u = ap (stands_at w) q in cc)) (omega arith) (omega arith) (omega arith) (omega arith) (omega arith) (omega arith)
 
   -- a writer with nobody ahead, and another that holds
   nobody_holds : (i j : ℕ) → stands_at w i ≡ T5 → (writers_ahead (stands_at w) l i ≡ 0) × (readers_ahead (stands_at w) l i ≡ 0) → (j ≢ i) → (stands_at w j ≡ ReaderH) ⊎ (stands_at w j ≡ WriterH) → ⊥
@@ -94,7 +93,7 @@ may_at : (w : Words) (i : ℕ) (x : Standing) → stands_at w i ≡ x → MayHol
 may_at w i x e m = subst (λ y. MayHold (class_of y) (mean w) i) (sym e) m
 
 writing_holds : (x : Standing) → class_of x ≡ Writing → (x ≡ ReaderH) ⊎ (x ≡ WriterH) → x ≡ WriterH
-writing_holds x k (inl e) = no (let u = ap class_of e in cc)
+writing_holds x k (inl e) = absurd (let u = ap class_of e in cc)
 writing_holds x k (inr e) = e
 
 -- a test, and what it lets in
@@ -132,10 +131,7 @@ class_next WriterH k c n = refl
 pub means_stepped : (w : Words) (l : List ℕ) (i : ℕ) → Keeps w l → i < 32 → steps_from (phases w i) (Unit {0}) ⊥ → Stepped (mean w) i (mean (stepped w i))
 means_stepped w l i h lt m =
     let b : Becomes w i (next_standing (stands_at w i) (kept_by w i) w.completions) (stepped w i) = becomes w i _ _ _ _ lt h.full in
-    step_means phase_of class_of (stands_at w) (stands_at (stepped w i)) (bars w) (bars (stepped w i)) i
-    (subst (Reaches (mean w) i (phases w i)) (sym (ap phase_of b.here)) (reaches h i (stands_at w i) refl m))
-    b.others
-    (subst (λ x. (phase_of x ≢ Idle) → class_of x ≡ classes w i) (sym b.here) (class_next (stands_at w i) _ _))
+    step_means phase_of class_of (stands_at w) (stands_at (stepped w i)) (bars w) (bars (stepped w i)) i _ (reaches h i (stands_at w i) refl m) b.stands (class_next (stands_at w i) _ _)
 
 finished_leaves : (x : Standing) → (x ≡ ReaderH) ⊎ (x ≡ WriterH) → (phase_of (finished_standing x) ≡ Leaves) × (class_of (finished_standing x) ≡ class_of x)
 finished_leaves x (inl e) = (ap (λ y. phase_of (finished_standing y)) e, ap (λ y. class_of (finished_standing y)) e ∙ sym (ap class_of e))
@@ -145,4 +141,4 @@ pub means_finished : (w : Words) (l : List ℕ) (i : ℕ) → Keeps w l → i < 
 means_finished w l i h lt e =
     let b : Becomes w i (finished_standing (stands_at w i)) (finished w i) = becomes w i _ _ _ _ lt h.full in
     let f = finished_leaves (stands_at w i) (holds_is _ e) in
-    finish_means phase_of class_of (stands_at w) (stands_at (finished w i)) (bars w) (bars (finished w i)) i e b.others (ap phase_of b.here ∙ f.0) (ap class_of b.here ∙ f.1)
+    finish_means phase_of class_of (stands_at w) (stands_at (finished w i)) (bars w) (bars (finished w i)) i _ e b.stands f.0 f.1

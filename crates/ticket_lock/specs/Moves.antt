@@ -2,10 +2,11 @@
 use Rattle.std.specs.Prelude.{◌≡◌, ℕ, suc, ◌+◌, ◌≤◌, List, [], ◌∷◌, ◌++◌, ◌≢◌, refl}
 use Rattle.std.proofs.Common.{sym, ap, subst, ◌∙◌, inl, inr, arith}
 use Rattle.std.proofs.lemmas.Bool.{cases_eq}
+use Rattle.lined_lock.specs.Totals.{total, total_one}
 use Rattle.lock.specs.Line.{without}
 use Rattle.ticket_lock.specs.Invariant.{Ahead, Fits, Sound}
-use Rattle.ticket_lock.specs.Order.{times, before, among, adv, reads, writes, read_leaves, write_leaves, readers_ahead, writers_ahead}
-use Rattle.ticket_lock.specs.Counts.{times_end_own, times_end_other, before_end_in, before_end_own, before_end_out, before_agree, times_without_own, times_without_other, only, before_without, only_none, only_passed, before_sum, among_moved}
+use Rattle.ticket_lock.specs.Order.{times, before, adv, reads, writes, read_leaves, write_leaves, readers_ahead, writers_ahead}
+use Rattle.ticket_lock.specs.Counts.{times_end_own, times_end_other, before_end_in, before_end_own, before_end_out, before_agree, times_without_own, times_without_other, only, before_without, only_none, only_passed, before_sum}
 use Rattle.ticket_lock.specs.Sound.{once, follows_same, follows_count, Alone, keeps_sound}
 use Rattle.ticket_words.specs.Counting.{lower, upper, counted}
 use Rattle.ticket_words.specs.declared.standing.Standing.{Standing}
@@ -20,8 +21,8 @@ pub record Alike (x y : Standing) : Type 0 where
 
 module _ {a b : ℕ → Standing} {k g : ℕ → ℕ} {i : ℕ} (o : Alone a b k g i) where
   -- what slot i adds to a sum over the slots changes, and no more
-  among_move : (f : Standing → ℕ) → among (λ x. f (b x)) 32 + f (a i) ≡ among (λ x. f (a x)) 32 + f (b i)
-  among_move f = among_moved (λ x. f (a x)) (λ x. f (b x)) i 32 (λ x n. ap f (o.stands x n)) o.slot
+  total_move : (f : Standing → ℕ) → total (λ x. f (b x)) 32 + f (a i) ≡ total (λ x. f (a x)) 32 + f (b i)
+  total_move f = total_one (λ x. f (a x)) (λ x. f (b x)) i 32 (λ x n. ap f (o.stands x n)) o.slot
 
   everywhere : (f : Standing → ℕ) → f (b i) ≡ f (a i) → (x : ℕ) → f (b x) ≡ f (a x)
   everywhere f e x = elim (cases_eq x i) [ inl q ↦ ap (λ y. f (b y)) q ∙ e ∙ ap (λ y. f (a y)) (sym q) | inr n ↦ ap f (o.stands x n) ]
@@ -35,8 +36,8 @@ module _ {a b : ℕ → Standing} {k g : ℕ → ℕ} {i : ℕ} (o : Alone a b k
 
   pub quiet : {r c : ℕ} {l : List ℕ} → Sound a k r c l → Alike (a i) (b i) → Fits (b i) (g i) c (readers_ahead a l i) (writers_ahead a l i) → Sound b g r c l
   quiet {r} {c} {l} s y f =
-      let rl = among_move read_leaves in
-      let wl = among_move write_leaves in
+      let rl = total_move read_leaves in
+      let wl = total_move write_leaves in
       let er : (j : ℕ) → readers_ahead b l j ≡ readers_ahead a l j = λ j. let z = before_move reads j l y.read in let u = y.read_leave in omega arith in
       let ew : (j : ℕ) → writers_ahead b l j ≡ writers_ahead a l j = λ j. let z = before_move writes j l y.write in let u = y.write_leave in omega arith in
       keeps_sound s o
@@ -48,8 +49,8 @@ module _ {a b : ℕ → Standing} {k g : ℕ → ℕ} {i : ℕ} (o : Alone a b k
   -- a slot at T3 counts a reader out
   pub reader_out : {r c d : ℕ} {l : List ℕ} → Sound a k r c l → a i ≡ T3 → b i ≡ I → lower d ≡ lower c → upper d ≡ counted (upper c) → Sound b g r d l
   reader_out {r} {c} {d} {l} s e f lo up =
-      let er : (j : ℕ) → readers_ahead a l j ≡ suc (readers_ahead b l j) = λ j. let z = before_move reads j l (ap reads f ∙ sym (ap reads e)) in let u = among_move read_leaves in let p = ap read_leaves e in let q = ap read_leaves f in omega arith in
-      let ew : (j : ℕ) → writers_ahead b l j ≡ writers_ahead a l j = λ j. let z = before_move writes j l (ap writes f ∙ sym (ap writes e)) in let u = among_move write_leaves in let p = ap write_leaves e in let q = ap write_leaves f in omega arith in
+      let er : (j : ℕ) → readers_ahead a l j ≡ suc (readers_ahead b l j) = λ j. let z = before_move reads j l (ap reads f ∙ sym (ap reads e)) in let u = total_move read_leaves in let p = ap read_leaves e in let q = ap read_leaves f in omega arith in
+      let ew : (j : ℕ) → writers_ahead b l j ≡ writers_ahead a l j = λ j. let z = before_move writes j l (ap writes f ∙ sym (ap writes e)) in let u = total_move write_leaves in let p = ap write_leaves e in let q = ap write_leaves f in omega arith in
       keeps_sound s o
       (record { writers = λ j n h. follows_same _ _ _ _ lo (ew j); readers = λ j n h. follows_count _ _ _ _ up (er j) })
       (stays_lined s (ap reads f ∙ sym (ap reads e)) (ap writes f ∙ sym (ap writes e)))
@@ -59,8 +60,8 @@ module _ {a b : ℕ → Standing} {k g : ℕ → ℕ} {i : ℕ} (o : Alone a b k
   -- a slot at T6 counts a writer out
   pub writer_out : {r c d : ℕ} {l : List ℕ} → Sound a k r c l → a i ≡ T6 → b i ≡ I → lower d ≡ counted (lower c) → upper d ≡ upper c → Sound b g r d l
   writer_out {r} {c} {d} {l} s e f lo up =
-      let er : (j : ℕ) → readers_ahead b l j ≡ readers_ahead a l j = λ j. let z = before_move reads j l (ap reads f ∙ sym (ap reads e)) in let u = among_move read_leaves in let p = ap read_leaves e in let q = ap read_leaves f in omega arith in
-      let ew : (j : ℕ) → writers_ahead a l j ≡ suc (writers_ahead b l j) = λ j. let z = before_move writes j l (ap writes f ∙ sym (ap writes e)) in let u = among_move write_leaves in let p = ap write_leaves e in let q = ap write_leaves f in omega arith in
+      let er : (j : ℕ) → readers_ahead b l j ≡ readers_ahead a l j = λ j. let z = before_move reads j l (ap reads f ∙ sym (ap reads e)) in let u = total_move read_leaves in let p = ap read_leaves e in let q = ap read_leaves f in omega arith in
+      let ew : (j : ℕ) → writers_ahead a l j ≡ suc (writers_ahead b l j) = λ j. let z = before_move writes j l (ap writes f ∙ sym (ap writes e)) in let u = total_move write_leaves in let p = ap write_leaves e in let q = ap write_leaves f in omega arith in
       keeps_sound s o
       (record { writers = λ j n h. follows_count _ _ _ _ lo (ew j); readers = λ j n h. follows_same _ _ _ _ up (er j) })
       (stays_lined s (ap reads f ∙ sym (ap reads e)) (ap writes f ∙ sym (ap writes e)))
@@ -69,13 +70,13 @@ module _ {a b : ℕ → Standing} {k g : ℕ → ℕ} {i : ℕ} (o : Alone a b k
 
   -- what is ahead of whom, when slot i joins the line
   record Joins (f h : Standing → ℕ) (l : List ℕ) : Type 0 where
-    others : (j : ℕ) → 1 ≤ times j l → among (λ x. f (b x)) 32 + before (λ x. h (b x)) j (l ++ (i ∷ [])) ≡ among (λ x. f (a x)) 32 + before (λ x. h (a x)) j l
-    own : among (λ x. f (b x)) 32 + before (λ x. h (b x)) i (l ++ (i ∷ [])) ≡ among (λ x. f (a x)) 32 + before (λ x. h (a x)) 32 l
-    all : among (λ x. f (b x)) 32 + before (λ x. h (b x)) 32 (l ++ (i ∷ [])) ≡ among (λ x. f (a x)) 32 + before (λ x. h (a x)) 32 l + h (b i)
+    others : (j : ℕ) → 1 ≤ times j l → total (λ x. f (b x)) 32 + before (λ x. h (b x)) j (l ++ (i ∷ [])) ≡ total (λ x. f (a x)) 32 + before (λ x. h (a x)) j l
+    own : total (λ x. f (b x)) 32 + before (λ x. h (b x)) i (l ++ (i ∷ [])) ≡ total (λ x. f (a x)) 32 + before (λ x. h (a x)) 32 l
+    all : total (λ x. f (b x)) 32 + before (λ x. h (b x)) 32 (l ++ (i ∷ [])) ≡ total (λ x. f (a x)) 32 + before (λ x. h (a x)) 32 l + h (b i)
 
   joins : {r c : ℕ} {l : List ℕ} (f h : Standing → ℕ) → Sound a k r c l → times i l ≡ 0 → f (b i) ≡ f (a i) → Joins f h l
   joins {r} {c} {l} f h s z e =
-      let u = among_move f in
+      let u = total_move f in
       let out : times 32 l ≡ 0 = let t = s.lined 32 in let q = ap (λ x. reads x + writes x) (s.off 32 (omega arith)) in omega arith in
       let same : (j : ℕ) → before (λ x. h (b x)) j l ≡ before (λ x. h (a x)) j l = λ j. before_agree (λ x. h (a x)) (λ x. h (b x)) j l (λ x m. ap h (o.stands x (λ q. let t = ap (λ y. times y l) q in omega arith))) in
       record {
@@ -153,11 +154,11 @@ module _ {a b : ℕ → Standing} {k g : ℕ → ℕ} {i : ℕ} (o : Alone a b k
       let er : (j : ℕ) → (j ≢ i) → times j l ≤ writes (a j) → readers_ahead b m j ≡ readers_ahead a l j = λ j n h.
       let z = share reads j l n in
       let y = only_passed (λ x. writes (a x)) (reads (a i)) i j l n first (omega arith) one in
-      let u = among_move read_leaves in let p = ap read_leaves e in let q = ap read_leaves f in let v = ap reads e in omega arith in
+      let u = total_move read_leaves in let p = ap read_leaves e in let q = ap read_leaves f in let v = ap reads e in omega arith in
       let ew : (j : ℕ) → (j ≢ i) → writers_ahead b m j ≡ writers_ahead a l j = λ j n.
       let z = share writes j l n in
       let y = no_share writes j l (ap writes e) in
-      let u = among_move write_leaves in let p = ap write_leaves e in let q = ap write_leaves f in omega arith in
+      let u = total_move write_leaves in let p = ap write_leaves e in let q = ap write_leaves f in omega arith in
       let none : times 32 l ≤ writes (a 32) = let t = s.lined 32 in let q = ap (λ x. reads x + writes x) (s.off 32 (omega arith)) in omega arith in
       keeps_sound s o
       (record {
@@ -179,11 +180,11 @@ module _ {a b : ℕ → Standing} {k g : ℕ → ℕ} {i : ℕ} (o : Alone a b k
       let er : (j : ℕ) → (j ≢ i) → readers_ahead b m j ≡ readers_ahead a l j = λ j n.
       let z = share reads j l n in
       let y = no_share reads j l (ap reads e) in
-      let u = among_move read_leaves in let p = ap read_leaves e in let q = ap read_leaves f in omega arith in
+      let u = total_move read_leaves in let p = ap read_leaves e in let q = ap read_leaves f in omega arith in
       let ew : (j : ℕ) → (j ≢ i) → writers_ahead b m j ≡ writers_ahead a l j = λ j n.
       let z = share writes j l n in
       let y = only_passed (λ x. reads (a x) + writes (a x)) (writes (a i)) i j l n first (let t = s.lined j in omega arith) one in
-      let u = among_move write_leaves in let p = ap write_leaves e in let q = ap write_leaves f in let v = ap writes e in omega arith in
+      let u = total_move write_leaves in let p = ap write_leaves e in let q = ap write_leaves f in let v = ap writes e in omega arith in
       keeps_sound s o
       (record { writers = λ j n w. follows_same _ _ _ _ refl (ew j n); readers = λ j n w. follows_same _ _ _ _ refl (er j n) })
       (left_lined s (ap (λ x. reads x + writes x) f))

@@ -1,5 +1,6 @@
 -- Counts over a line and over the slots.
 use Rattle.std.specs.Prelude.{ℕ, zero, suc, ◌+◌, cond, List, [], ◌∷◌, ◌==◌}
+use Rattle.lined_lock.specs.Totals.{total}
 use Rattle.ticket_words.specs.Counting.{counted}
 use Rattle.ticket_words.specs.declared.standing.Standing.{Standing}
 use Rattle.ticket_words.specs.declared.standing.Standing.TheVariants.{I, T1, T2, T3, T4, T5, T6, ReaderH, WriterH}
@@ -13,11 +14,6 @@ times i (x ∷ line) = cond (x == i) (suc (times i line)) (times i line)
 abbrev pub before : (ℕ → ℕ) → ℕ → List ℕ → ℕ
 before f i [] = 0
 before f i (x ∷ line) = cond (x == i) 0 (f x + before f i line)
-
--- the sum over the slots below n
-unfoldable pub among : (ℕ → ℕ) → ℕ → ℕ
-among f zero = 0
-among f (suc n) = f n + among f n
 
 -- a half that is counted n times
 abbrev pub adv : ℕ → ℕ → ℕ
@@ -74,8 +70,8 @@ write_leaves WriterH = 0
 
 -- the readers that leave, and those in line before slot i
 abbrev pub readers_ahead : (ℕ → Standing) → List ℕ → ℕ → ℕ
-readers_ahead at line i = among (λ x. read_leaves (at x)) 32 + before (λ x. reads (at x)) i line
+readers_ahead at line i = total (λ x. read_leaves (at x)) 32 + before (λ x. reads (at x)) i line
 
 -- the writers that leave, and those in line before slot i
 abbrev pub writers_ahead : (ℕ → Standing) → List ℕ → ℕ → ℕ
-writers_ahead at line i = among (λ x. write_leaves (at x)) 32 + before (λ x. writes (at x)) i line
+writers_ahead at line i = total (λ x. write_leaves (at x)) 32 + before (λ x. writes (at x)) i line

@@ -1,6 +1,7 @@
 -- How far a waiting job is from its hold, and what a turn does to that.
 use Rattle.std.proofs.Common.{◌≡◌, ℕ, ◌+◌, ◌<◌, ◌≤◌, Bool, true, false, cond, eqb, ◌⊎◌, [], ◌∷◌, ◌++◌, sym, refl, ap, ◌∙◌, subst, inl, inr, arith}
 use Rattle.std.proofs.lemmas.Bool.{eqb-true, eqb-false, cases_eq}
+use Rattle.lined_lock.specs.Totals.{total, total_one}
 use Rattle.lock.specs.Line.{arrives, without}
 use Rattle.lock.specs.Meaning.{steps_from}
 use Rattle.lock.specs.Progress.{Goes, rests, calls, steps, works, finishes, AtMost, longest_hold}
@@ -8,9 +9,9 @@ use Rattle.lock.specs.declared.words.Class.{Class}
 use Rattle.lock.specs.declared.words.Class.TheVariants.{Reading, Writing}
 use Rattle.lock.specs.declared.words.Phase.TheVariants.{Waits}
 use Rattle.lined_lock.specs.Lock.{phases, line_of, Calls, Steps, Finishes}
-use Rattle.ticket_lock.specs.Order.{times, before, among, adv, reads, writes, read_leaves, write_leaves, readers_ahead, writers_ahead}
+use Rattle.ticket_lock.specs.Order.{times, before, adv, reads, writes, read_leaves, write_leaves, readers_ahead, writers_ahead}
 use Rattle.ticket_lock.specs.Ticket.{TicketLock, ticket}
-use Rattle.ticket_lock.specs.Counts.{no, only, only_passed, before_without, before_sum, before_agree, before_end_in, among_moved, heads, head_times, head_before, head_end, before_mono, before_falls}
+use Rattle.ticket_lock.specs.Counts.{only, only_passed, before_without, before_sum, before_agree, before_end_in, heads, head_times, head_before, head_end, before_mono, before_falls}
 use Rattle.ticket_lock.specs.Kept.{fit_at, idle_is}
 use Rattle.ticket_lock.specs.Laws.{Becomes, becomes, called_becomes, holds_is}
 use Rattle.ticket_words.specs.Counting.{lower, upper}
@@ -49,7 +50,7 @@ leaves x = read_leaves x + write_leaves x
 
 -- how many slots leave
 abbrev pub gone : TicketLock → ℕ
-gone s = among (λ x. read_leaves (stands_at s.words x)) 32 + among (λ x. write_leaves (stands_at s.words x)) 32
+gone s = total (λ x. read_leaves (stands_at s.words x)) 32 + total (λ x. write_leaves (stands_at s.words x)) 32
 
 -- the turns of those that leave and of those before j in line
 abbrev pub ahead : TicketLock → (ℕ → ℕ) → ℕ → ℕ
@@ -93,10 +94,10 @@ pub record Others (s t : TicketLock) (f g : ℕ → ℕ) (i : ℕ) : Type 0 wher
 
 pub goes_others : (s t : TicketLock) (f g : ℕ → ℕ) (i : ℕ) → i < 32 → Goes ticket s f i t g → Others s t f g i
 goes_others s t f g i lt (rests e q m) = record { slot = lt; stand = λ x n. ap (λ y. stands_at y.words x) q; keep = λ x n. ap (λ y. kept_by y.words x) q; left = m.others }
-goes_others s t f g i lt (calls c m l) = let b = calls_becomes s i c t lt m in record { slot = lt; stand = b.others; keep = b.keeps; left = l.others }
-goes_others s t f g i lt (steps m q) = let b = steps_becomes s i t lt m in record { slot = lt; stand = b.others; keep = b.keeps; left = λ x n. ap (λ y. y x) q }
+goes_others s t f g i lt (calls c m l) = let b = calls_becomes s i c t lt m in record { slot = lt; stand = b.stands.others; keep = b.keeps; left = l.others }
+goes_others s t f g i lt (steps m q) = let b = steps_becomes s i t lt m in record { slot = lt; stand = b.stands.others; keep = b.keeps; left = λ x n. ap (λ y. y x) q }
 goes_others s t f g i lt (works e q z o m) = record { slot = lt; stand = λ x n. ap (λ y. stands_at y.words x) q; keep = λ x n. ap (λ y. kept_by y.words x) q; left = m.others }
-goes_others s t f g i lt (finishes m z l) = let b = finishes_becomes s i t lt m in record { slot = lt; stand = b.others; keep = b.keeps; left = l.others }
+goes_others s t f g i lt (finishes m z l) = let b = finishes_becomes s i t lt m in record { slot = lt; stand = b.stands.others; keep = b.keeps; left = l.others }
 
 pub same_load : {s t : TicketLock} {f g : ℕ → ℕ} {i : ℕ} → Others s t f g i → (x : ℕ) → (x ≡ i → ⊥) → load t g x ≡ load s f x
 same_load {s} {t} {f} {g} o x n = ap (λ y. weight y (g x)) (o.stand x n) ∙ ap (weight (stands_at s.words x)) (o.left x n)
@@ -105,8 +106,8 @@ gone_moved : {s t : TicketLock} {f g : ℕ → ℕ} {i : ℕ} → Others s t f g
 gone_moved {s} {t} {f} {g} {i} o =
     let a = stands_at s.words in
     let b = stands_at t.words in
-    let r = among_moved (λ x. read_leaves (a x)) (λ x. read_leaves (b x)) i 32 (λ x n. ap read_leaves (o.stand x n)) o.slot in
-    let w = among_moved (λ x. write_leaves (a x)) (λ x. write_leaves (b x)) i 32 (λ x n. ap write_leaves (o.stand x n)) o.slot in
+    let r = total_one (λ x. read_leaves (a x)) (λ x. read_leaves (b x)) i 32 (λ x n. ap read_leaves (o.stand x n)) o.slot in
+    let w = total_one (λ x. write_leaves (a x)) (λ x. write_leaves (b x)) i 32 (λ x n. ap write_leaves (o.stand x n)) o.slot in
     omega arith
 
 -- the line stays, nobody comes to leave, and slot i does not weigh more
@@ -182,15 +183,15 @@ pub free_at : (s : TicketLock) (j : ℕ) (x : Standing) (b : Bool) → stands_at
 free_at s j x b e z = subst (λ y. test y (kept_by s.words j) s.words.completions ≡ b) e z
 
 pub waits_is : (x : Standing) → phase_of x ≡ Waits → (x ≡ T2) ⊎ (x ≡ T5)
-waits_is I e = no (cc)
-waits_is T1 e = no (cc)
+waits_is I e = absurd (cc)
+waits_is T1 e = absurd (cc)
 waits_is T2 e = inl refl
-waits_is T3 e = no (cc)
-waits_is T4 e = no (cc)
+waits_is T3 e = absurd (cc)
+waits_is T4 e = absurd (cc)
 waits_is T5 e = inr refl
-waits_is T6 e = no (cc)
-waits_is ReaderH e = no (cc)
-waits_is WriterH e = no (cc)
+waits_is T6 e = absurd (cc)
+waits_is ReaderH e = absurd (cc)
+waits_is WriterH e = absurd (cc)
 
 pub waits_lined : (s : TicketLock) (j : ℕ) → phases s j ≡ Waits → 1 ≤ times j (line_of s)
 waits_lined s j e = elim (waits_is _ e) [
@@ -222,7 +223,7 @@ reader_fine {s} {t} {f} {g} {i} {j} o sm q w e true z d =
     let u = ap (λ x. weight x (f i)) e in
     let v = ap (λ x. weight x (g i)) d in
     let m = sm i in
-    still o q (ap leaves e) (ap leaves d) (omega arith) (λ y h. (λ k. no (let r = ap (phases t) k in let p = ap phase_of d in cc), omega arith))
+    still o q (ap leaves e) (ap leaves d) (omega arith) (λ y h. (λ k. absurd (let r = ap (phases t) k in let p = ap phase_of d in cc), omega arith))
 reader_fine {s} {t} {f} {g} {i} {j} o sm q w e false z d =
     let u = ap (λ x. weight x (f i)) e in
     let v = ap (λ x. weight x (g i)) d in
@@ -233,7 +234,7 @@ writer_fine {s} {t} {f} {g} {i} {j} o sm q w e true z d =
     let u = ap (λ x. weight x (f i)) e in
     let v = ap (λ x. weight x (g i)) d in
     let m = sm i in
-    still o q (ap leaves e) (ap leaves d) (omega arith) (λ y h. (λ k. no (let r = ap (phases t) k in let p = ap phase_of d in cc), omega arith))
+    still o q (ap leaves e) (ap leaves d) (omega arith) (λ y h. (λ k. absurd (let r = ap (phases t) k in let p = ap phase_of d in cc), omega arith))
 writer_fine {s} {t} {f} {g} {i} {j} o sm q w e false z d =
     let u = ap (λ x. weight x (f i)) e in
     let v = ap (λ x. weight x (g i)) d in
@@ -290,23 +291,23 @@ goes_fine s t f g i j lt sm a b z (rests e q m) =
     still (goes_others s t f g i lt (rests e q m)) (ap line_of q) (ap leaves d) (ap leaves h) (omega arith) (λ y w. absurd (in_line_of s i I d refl w))
 goes_fine s t f g i j lt sm a b z (calls c m l) =
     let d = idle_is _ m.idle in
-    let h = (calls_becomes s i c t lt m).here in
+    let h = (calls_becomes s i c t lt m).stands.here in
     let k = called_light c (g i) in
     let u = ap (λ x. weight x (f i)) d in
     let v = ap (λ x. weight x (g i)) h ∙ k.0 in
     still (goes_others s t f g i lt (calls c m l)) m.same (ap leaves d) (ap leaves h ∙ k.1) (omega arith) (λ y w. absurd (in_line_of s i I d refl w))
-goes_fine s t f g i j lt sm a b z (steps m q) = step_fine (goes_others s t f g i lt (steps m q)) sm a b (stands_at s.words i) refl m.moves (steps_becomes s i t lt m).here m.arrived
+goes_fine s t f g i j lt sm a b z (steps m q) = step_fine (goes_others s t f g i lt (steps m q)) sm a b (stands_at s.words i) refl m.moves (steps_becomes s i t lt m).stands.here m.arrived
 goes_fine s t f g i j lt sm a b z (works e q y o m) =
     let d = holds_is _ e in
     let h = ap (λ y. stands_at y.words i) q in
     let k = holding_load _ (f i) d in
     let u = k.0 in
     let v = ap (λ x. weight x (g i)) h ∙ (holding_load _ (g i) d).0 in
-    still (goes_others s t f g i lt (works e q y o m)) (ap line_of q) k.1 (ap leaves h ∙ k.1) (omega arith) (λ w c. (λ r. no (let p = ap (phases s) r in cc), omega arith))
+    still (goes_others s t f g i lt (works e q y o m)) (ap line_of q) k.1 (ap leaves h ∙ k.1) (omega arith) (λ w c. (λ r. absurd (let p = ap (phases s) r in cc), omega arith))
 goes_fine s t f g i j lt sm a b z (finishes m y l) =
     let d = holds_is _ m.holds in
-    let h = (finishes_becomes s i t lt m).here in
+    let h = (finishes_becomes s i t lt m).stands.here in
     let k = holding_load _ (f i) d in
     let u = k.0 in
-    let n : j ≡ i → ⊥ = λ r. no (let p = ap (phases s) r in let c = m.holds in cc) in
+    let n : j ≡ i → ⊥ = λ r. absurd (let p = ap (phases s) r in let c = m.holds in cc) in
     quitting (goes_others s t f g i lt (finishes m y l)) m.quit k.1 (ap leaves h ∙ k.2) (omega arith) n (holder_before s i j n z (waits_is _ a) d)

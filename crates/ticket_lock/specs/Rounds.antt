@@ -1,13 +1,14 @@
 -- The ticket lock keeps the promise of progress.
 use Rattle.std.proofs.Common.{◌≡◌, ℕ, suc, ◌+◌, ◌*◌, ◌<◌, ◌≤◌, Bool, true, false, cond, eqb, ◌⊎◌, sym, refl, ap, ◌∙◌, subst, inl, inr, arith}
 use Rattle.std.proofs.lemmas.Bool.{eq-eqb, eqb-true, eqb-false, cases_eq, cases_lt}
+use Rattle.lined_lock.specs.Totals.{total, total_at}
 use Rattle.lock.specs.Meaning.{steps_from}
 use Rattle.lock.specs.Progress.{Goes, rests, calls, steps, works, finishes, AtMost, longest_hold, rounds_a_slot, Turns, Falls, Below, Waiting, Going, Progress}
 use Rattle.lock.specs.declared.words.Phase.TheVariants.{Idle, Waits, Holds, Leaves}
 use Rattle.lined_lock.specs.Lock.{phases, line_of, Steps}
-use Rattle.ticket_lock.specs.Order.{among, read_leaves, write_leaves, readers_ahead, writers_ahead}
+use Rattle.ticket_lock.specs.Order.{read_leaves, write_leaves, readers_ahead, writers_ahead}
 use Rattle.ticket_lock.specs.Ticket.{TicketLock, ticket}
-use Rattle.ticket_lock.specs.Counts.{no, among_at, among_few, among_some, heads, head_some, before_few}
+use Rattle.ticket_lock.specs.Counts.{total_few, total_some, heads, head_some, before_few}
 use Rattle.ticket_lock.specs.Kept.{idle_is, lower_read, reader_free, writer_free}
 use Rattle.ticket_lock.specs.Laws.{holds_is}
 use Rattle.ticket_lock.specs.Paces.{steps_becomes, finishes_becomes, weight, load, leaves, gone, ahead, leads, leads_is, goes_fine, Others, goes_others, same_load, test, free, free_at, waits_is, waits_lined, in_line_of, holding_load}
@@ -26,18 +27,18 @@ free_holds s j z (inr e) =
     ap (λ x. phase_of (next_standing x (kept_by s.words j) s.words.completions)) e ∙ ap (λ b. phase_of (cond b WriterH T5)) (free_at s j T5 true e z)
 
 own_turn : (s t : TicketLock) (f g : ℕ → ℕ) (j : ℕ) → j < 32 → phases s j ≡ Waits → phases t j ≡ Waits → free s j ≡ true → Goes ticket s f j t g → ⊥
-own_turn s t f g j lt a b z (rests e q m) = no (cc)
-own_turn s t f g j lt a b z (calls c m l) = no (let e = m.idle in cc)
-own_turn s t f g j lt a b z (steps m q) = no (let e = ap phase_of (steps_becomes s j t lt m).here ∙ free_holds s j z (waits_is _ a) in cc)
-own_turn s t f g j lt a b z (works e q y o m) = no (cc)
-own_turn s t f g j lt a b z (finishes m y l) = no (let e = m.holds in cc)
+own_turn s t f g j lt a b z (rests e q m) = absurd (cc)
+own_turn s t f g j lt a b z (calls c m l) = absurd (let e = m.idle in cc)
+own_turn s t f g j lt a b z (steps m q) = absurd (let e = ap phase_of (steps_becomes s j t lt m).stands.here ∙ free_holds s j z (waits_is _ a) in cc)
+own_turn s t f g j lt a b z (works e q y o m) = absurd (cc)
+own_turn s t f g j lt a b z (finishes m y l) = absurd (let e = m.holds in cc)
 
 -- the completions that a test has found stay till the slot's own step: nobody is left to count
-reader_leaving : (s : TicketLock) (i : ℕ) → i < 32 → stands_at s.words i ≡ T3 → 1 ≤ among (λ x. read_leaves (stands_at s.words x)) 32
-reader_leaving s i lt e = let a = among_at (λ x. read_leaves (stands_at s.words x)) i 32 lt in let u = ap read_leaves e in omega arith
+reader_leaving : (s : TicketLock) (i : ℕ) → i < 32 → stands_at s.words i ≡ T3 → 1 ≤ total (λ x. read_leaves (stands_at s.words x)) 32
+reader_leaving s i lt e = let a = total_at (λ x. read_leaves (stands_at s.words x)) i 32 lt in let u = ap read_leaves e in omega arith
 
-writer_leaving : (s : TicketLock) (i : ℕ) → i < 32 → stands_at s.words i ≡ T6 → 1 ≤ among (λ x. write_leaves (stands_at s.words x)) 32
-writer_leaving s i lt e = let a = among_at (λ x. write_leaves (stands_at s.words x)) i 32 lt in let u = ap write_leaves e in omega arith
+writer_leaving : (s : TicketLock) (i : ℕ) → i < 32 → stands_at s.words i ≡ T6 → 1 ≤ total (λ x. write_leaves (stands_at s.words x)) 32
+writer_leaving s i lt e = let a = total_at (λ x. write_leaves (stands_at s.words x)) i 32 lt in let u = ap write_leaves e in omega arith
 
 lower_next : (s : TicketLock) (i j : ℕ) → i < 32 → writers_ahead (stands_at s.words) (line_of s) j ≡ 0 → (x : Standing) → stands_at s.words i ≡ x → lower (next_completions x s.words.completions) ≡ lower s.words.completions
 lower_next s i j lt w I e = refl
@@ -109,7 +110,7 @@ pace_by s t f g i j lt sm a b m true true y z = record {
 }
 pace_by s t f g i j lt sm a b m true false y z = elim (cases_eq j i) [
   | inl q ↦ absurd (own_turn s t f g j (subst (λ x. x < 32) (sym q) lt) a b y (subst (λ x. Goes ticket s f x t g) (sym q) m))
-  | inr n ↦ no (let k = stays_free s t f g i j lt n y (waits_is _ a) m in cc)
+  | inr n ↦ absurd (let k = stays_free s t f g i j lt n y (waits_is _ a) m in cc)
 ]
 pace_by s t f g i j lt sm a b m false true y z = record { le = omega arith; falls = λ e. omega arith; lasts = λ x n e. inr (omega arith) }
 pace_by s t f g i j lt sm a b m false false y z =
@@ -126,9 +127,9 @@ pace s t f g i j a b m = pace_by s t f g i j m.slot m.after a b m.goes _ _ refl 
 some_by : (s : TicketLock) (j : ℕ) → phases s j ≡ Waits → (b d : Bool) → eqb (gone s) 0 ≡ d → (x : ℕ) × (counts_by b j x (cond d (heads (line_of s) x) (eqb (leaves (stands_at s.words x)) 1)) ≡ true)
 some_by s j a true d z = (j, eq-eqb j j refl)
 some_by s j a false true z = head_some (line_of s) j (waits_lined s j a)
-some_by s j a false false z = elim (cases_lt 0 (among (λ x. read_leaves (stands_at s.words x)) 32)) [
-  | inl l ↦ let x = among_some (λ x. read_leaves (stands_at s.words x)) 32 l in (x.0, leaving x.0 (let u = x.1 in omega arith))
-  | inr g ↦ let x = among_some (λ x. write_leaves (stands_at s.words x)) 32 (let n = eqb-false (gone s) 0 z in omega arith) in (x.0, leaving x.0 (let u = x.1 in omega arith))
+some_by s j a false false z = elim (cases_lt 0 (total (λ x. read_leaves (stands_at s.words x)) 32)) [
+  | inl l ↦ let x = total_some (λ x. read_leaves (stands_at s.words x)) 32 l in (x.0, leaving x.0 (let u = x.1 in omega arith))
+  | inr g ↦ let x = total_some (λ x. write_leaves (stands_at s.words x)) 32 (let n = eqb-false (gone s) 0 z in omega arith) in (x.0, leaving x.0 (let u = x.1 in omega arith))
 ]
   where
     leaving : (x : ℕ) → 1 ≤ leaves (stands_at s.words x) → eqb (leaves (stands_at s.words x)) 1 ≡ true
@@ -141,7 +142,7 @@ leads_awake s x e p =
     elim (leads_is s x e) [ inl u ↦ in_line_of s x I q refl u.1 | inr u ↦ let v = ap leaves q in omega arith ]
 
 awake_by : (s : TicketLock) (j x : ℕ) → phases s j ≡ Waits → (b : Bool) → counts_by b j x (leads s x) ≡ true → phases s x ≡ Idle → ⊥
-awake_by s j x a true e p = no (let q = ap (phases s) (eqb-true x j e) in cc)
+awake_by s j x a true e p = absurd (let q = ap (phases s) (eqb-true x j e) in cc)
 awake_by s j x a false e p = leads_awake s x e p
 
 abbrev enters : Falls ticket longest_hold (Waiting ticket)
@@ -175,8 +176,8 @@ enters_low n s f j lt bl sm a =
     let idle : (x : ℕ) → n ≤ x → stands_at s.words x ≡ I = λ x h. idle_is _ (bl x h) in
     let l = line_few n s.keeps.sound idle in
     let p = before_few (load s f) (longest_hold + 2) j (line_of s) (λ x. weight_low (stands_at s.words x) (f x) (sm x)) (waits_lined s j a) in
-    let r = among_few (λ x. read_leaves (stands_at s.words x)) 32 n (λ x. let u = once (stands_at s.words x) in omega arith) (λ x h. ap read_leaves (idle x h)) in
-    let w = among_few (λ x. write_leaves (stands_at s.words x)) 32 n (λ x. let u = once (stands_at s.words x) in omega arith) (λ x h. ap write_leaves (idle x h)) in
+    let r = total_few (λ x. read_leaves (stands_at s.words x)) 32 n (λ x. let u = once (stands_at s.words x) in omega arith) (λ x h. ap read_leaves (idle x h)) in
+    let w = total_few (λ x. write_leaves (stands_at s.words x)) 32 n (λ x. let u = once (stands_at s.words x) in omega arith) (λ x h. ap write_leaves (idle x h)) in
     rank_low (free s j) (ahead s f j) n (omega arith) (omega arith)
 
 -- from the hold to the end only the job's own turns count
@@ -191,15 +192,15 @@ out_own : {s t : TicketLock} {f g : ℕ → ℕ} {i j : ℕ} → j ≡ i → loa
 out_own {s} {t} {f} {g} {i} {j} q l = let z : load t g j < load s f j = subst (λ x. load t g x < load s f x) (sym q) l in record { le = omega arith; falls = λ r. z }
 
 idle_going : (s : TicketLock) (j : ℕ) → phases s j ≡ Idle → Going ticket s j → ⊥
-idle_going s j e (inl a) = no (cc)
-idle_going s j e (inr a) = no (cc)
+idle_going s j e (inl a) = absurd (cc)
+idle_going s j e (inr a) = absurd (cc)
 
 -- the step of a job that leaves is its last
 last_step : (s t : TicketLock) (i : ℕ) → i < 32 → Steps s i t → Going ticket s i → phases t i ≡ Idle
 last_step s t i lt m a = by_standing (stands_at s.words i) refl
   where
     b : stands_at t.words i ≡ next_standing (stands_at s.words i) (kept_by s.words i) s.words.completions
-    b = (steps_becomes s i t lt m).here
+    b = (steps_becomes s i t lt m).stands.here
 
     going : (x : Standing) → stands_at s.words i ≡ x → (phase_of x ≡ Holds) ⊎ (phase_of x ≡ Leaves)
     going x e = subst (λ y. (phase_of y ≡ Holds) ⊎ (phase_of y ≡ Leaves)) e a
@@ -208,12 +209,12 @@ last_step s t i lt m a = by_standing (stands_at s.words i) refl
     apart x h l e = elim (going x e) [ inl y ↦ absurd (h y) | inr y ↦ absurd (l y) ]
 
     by_standing : (x : Standing) → stands_at s.words i ≡ x → phases t i ≡ Idle
-    by_standing I e = apart I (λ y. no (cc)) (λ y. no (cc)) e
-    by_standing T1 e = apart T1 (λ y. no (cc)) (λ y. no (cc)) e
-    by_standing T2 e = apart T2 (λ y. no (cc)) (λ y. no (cc)) e
+    by_standing I e = apart I (λ y. absurd (cc)) (λ y. absurd (cc)) e
+    by_standing T1 e = apart T1 (λ y. absurd (cc)) (λ y. absurd (cc)) e
+    by_standing T2 e = apart T2 (λ y. absurd (cc)) (λ y. absurd (cc)) e
     by_standing T3 e = ap phase_of b ∙ ap (λ x. phase_of (next_standing x (kept_by s.words i) s.words.completions)) e
-    by_standing T4 e = apart T4 (λ y. no (cc)) (λ y. no (cc)) e
-    by_standing T5 e = apart T5 (λ y. no (cc)) (λ y. no (cc)) e
+    by_standing T4 e = apart T4 (λ y. absurd (cc)) (λ y. absurd (cc)) e
+    by_standing T5 e = apart T5 (λ y. absurd (cc)) (λ y. absurd (cc)) e
     by_standing T6 e = ap phase_of b ∙ ap (λ x. phase_of (next_standing x (kept_by s.words i) s.words.completions)) e
     by_standing ReaderH e = absurd (subst (λ x. steps_from (phase_of x) (Unit {0}) ⊥) e m.moves)
     by_standing WriterH e = absurd (subst (λ x. steps_from (phase_of x) (Unit {0}) ⊥) e m.moves)
@@ -234,7 +235,7 @@ own_out s t f g i lt a b (works e q y o m) =
 own_out s t f g i lt a b (finishes m y l) =
     let h = holds_is _ m.holds in
     let u = (holding_load _ (f i) h).0 in
-    let v = ap (λ x. weight x (g i)) (finishes_becomes s i t lt m).here ∙ finished_load _ (g i) h in
+    let v = ap (λ x. weight x (g i)) (finishes_becomes s i t lt m).stands.here ∙ finished_load _ (g i) h in
     omega arith
 
 out : (s t : TicketLock) (f g : ℕ → ℕ) (i j : ℕ) → Going ticket s j → Going ticket t j → Turns ticket longest_hold s f i t g → Out s t f g i j

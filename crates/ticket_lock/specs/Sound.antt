@@ -4,9 +4,10 @@ use Rattle.std.specs.Prelude.{◌≡◌, ℕ, zero, suc, ◌+◌, ◌<◌, ◌�
 use Rattle.std.proofs.Common.{sym, ap, subst, ◌∙◌, inl, inr, arith}
 use Rattle.std.proofs.Props.{props}
 use Rattle.std.proofs.lemmas.Bool.{cases_eq, cases_lt}
+use Rattle.lined_lock.specs.Totals.{total, total_le}
 use Rattle.ticket_lock.specs.Invariant.{Ahead, Fits, Sound, Keeps}
-use Rattle.ticket_lock.specs.Order.{times, before, among, adv, reads, writes, read_leaves, write_leaves, readers_ahead, writers_ahead}
-use Rattle.ticket_lock.specs.Counts.{before_le, among_le, few, adv_none}
+use Rattle.ticket_lock.specs.Order.{times, before, adv, reads, writes, read_leaves, write_leaves, readers_ahead, writers_ahead}
+use Rattle.ticket_lock.specs.Counts.{before_le, few, adv_none}
 use Rattle.ticket_words.specs.Counting.{lower, upper, counted}
 use Rattle.ticket_words.specs.declared.standing.Standing.{Standing}
 use Rattle.ticket_words.specs.declared.standing.Standing.TheVariants.{I, T1, T2, T3, T4, T5, T6, ReaderH, WriterH}
@@ -45,11 +46,11 @@ line_few {a} {k} {r} {c} {l} n s o = few n l
     (λ x m. elim (cases_lt x n) [ inl h ↦ h | inr g ↦ let h = s.lined x in let e = ap (λ y. reads y + writes y) (o x g) in absurd (omega arith) ])
 
 -- at most so many are ahead, and so a half that is ahead by them and has not moved is ahead by none
-none_ahead : {a : ℕ → Standing} {k : ℕ → ℕ} {r c : ℕ} {l : List ℕ} (f h : Standing → ℕ) (v i : ℕ) → Sound a k r c l → ((x : Standing) → f x ≤ 1) → ((x : Standing) → h x ≤ 1) → v ≡ adv v (among (λ x. f (a x)) 32 + before (λ x. h (a x)) i l) → among (λ x. f (a x)) 32 + before (λ x. h (a x)) i l ≡ 0
+none_ahead : {a : ℕ → Standing} {k : ℕ → ℕ} {r c : ℕ} {l : List ℕ} (f h : Standing → ℕ) (v i : ℕ) → Sound a k r c l → ((x : Standing) → f x ≤ 1) → ((x : Standing) → h x ≤ 1) → v ≡ adv v (total (λ x. f (a x)) 32 + before (λ x. h (a x)) i l) → total (λ x. f (a x)) 32 + before (λ x. h (a x)) i l ≡ 0
 none_ahead {a} {k} {r} {c} {l} f h v i s lf lh e =
     let n = line_few 32 s s.off in
     let u = before_le (λ x. h (a x)) i l (λ x. lh (a x)) in
-    let w = among_le (λ x. f (a x)) 32 (λ x. lf (a x)) in
+    let w = total_le (λ x. f (a x)) 1 32 (λ x. lf (a x)) in
     adv_none v _ (omega arith) (sym e)
 
 pub no_writers : {a : ℕ → Standing} {k : ℕ → ℕ} {r c : ℕ} {l : List ℕ} (v i : ℕ) → Sound a k r c l → v ≡ adv v (writers_ahead a l i) → writers_ahead a l i ≡ 0

@@ -9,7 +9,7 @@ use Rattle.lock.specs.declared.words.Phase.TheVariants.{Holds}
 use Rattle.ticket_lock.specs.Invariant.{Keeps}
 use Rattle.ticket_lock.specs.Lock.{phases, classes}
 use Rattle.ticket_lock.specs.Order.{times, before, reads, writes}
-use Rattle.ticket_lock.specs.Counts.{no, times_hit, times_miss, before_miss, before_sum}
+use Rattle.ticket_lock.specs.Counts.{times_hit, times_miss, before_miss, before_sum}
 use Rattle.ticket_lock.specs.Kept.{reader_free, writer_free}
 use Rattle.ticket_lock.specs.Laws.{Becomes, becomes, in_line_at}
 use Rattle.ticket_words.specs.Counting.{lower}
@@ -57,7 +57,7 @@ reader_turn : {w : Words} {l : List ℕ} → Keeps w l → (i : ℕ) → stands_
 reader_turn {w} {l} h i e true z p =
     let f = reader_free h i e z in
     no_writer_in (classes w) (λ x. writes (stands_at w x)) i l (λ x m q. reads_class _ (let t = h.sound.lined x in omega arith) q) (omega arith) (in_line_at h i T2 e (omega arith))
-reader_turn h i e false z p = no (cc)
+reader_turn h i e false z p = absurd (cc)
 
 writer_turn : {w : Words} {l : List ℕ} → Keeps w l → (i : ℕ) → stands_at w i ≡ T5 → (b : Bool) → eqb w.completions (kept_by w i) ≡ b → phase_of (cond b WriterH T5) ≡ Holds → First i l
 writer_turn {w} {l} h i e true z p =
@@ -67,20 +67,20 @@ writer_turn {w} {l} h i e true z p =
     let a : ℕ → Standing = stands_at w in
     let q = before_sum (λ x. reads (a x)) (λ x. writes (a x)) i l in
     first_in (λ x. reads (a x) + writes (a x)) i l (λ x m. let t = h.sound.lined x in omega arith) (omega arith) (in_line_at h i T5 e (omega arith))
-writer_turn h i e false z p = no (cc)
+writer_turn h i e false z p = absurd (cc)
 
 turn_at : {w : Words} {l : List ℕ} → Keeps w l → (i : ℕ) (x : Standing) → stands_at w i ≡ x → steps_from (phase_of x) (Unit {0}) ⊥ → phase_of (next_standing x (kept_by w i) w.completions) ≡ Holds → Turn (class_of x) (classes w) i (arrives (phase_of x) i l)
 turn_at h i I e m p = absurd m
-turn_at h i T1 e m p = no (cc)
+turn_at h i T1 e m p = absurd (cc)
 turn_at h i T2 e m p = reader_turn h i e _ refl p
-turn_at h i T3 e m p = no (cc)
-turn_at h i T4 e m p = no (cc)
+turn_at h i T3 e m p = absurd (cc)
+turn_at h i T4 e m p = absurd (cc)
 turn_at h i T5 e m p = writer_turn h i e _ refl p
-turn_at h i T6 e m p = no (cc)
+turn_at h i T6 e m p = absurd (cc)
 turn_at h i ReaderH e m p = absurd m
 turn_at h i WriterH e m p = absurd m
 
 pub in_turn : (w : Words) (l : List ℕ) (i : ℕ) → Keeps w l → i < 32 → steps_from (phases w i) (Unit {0}) ⊥ → phases (stepped w i) i ≡ Holds → Turn (classes w i) (classes w) i (arrives (phases w i) i l)
 in_turn w l i h lt m p =
     let b : Becomes w i (next_standing (stands_at w i) (kept_by w i) w.completions) (stepped w i) = becomes w i _ _ _ _ lt h.full in
-    turn_at h i (stands_at w i) refl m (sym (ap phase_of b.here) ∙ p)
+    turn_at h i (stands_at w i) refl m (sym (ap phase_of b.stands.here) ∙ p)

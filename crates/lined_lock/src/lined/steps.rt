@@ -15,6 +15,7 @@ use refusal::Refusal;
 use slots::{Slot, Slots};
 use std::marker::PhantomData;
 
+// Each move makes new words and a new line, and writes the lock whole, as the two change together under the invariant.
 impl<P: Procedures<W>, W: Copy> LinedLock<P, W> {
     // The call of an idle slot, not barred if it is to write.
     fn take_in(&mut self, slot: Slot, class: Class)
