@@ -3,7 +3,7 @@ ghost use Rattle.entry.specs.Legs.{empty_leg, leg_accepted, leg_joined, leg_chec
 
 use crate::kind::Kind;
 
-#[derive(Clone, Copy, Debug, PartialEq, Eq)]
+#[derive(Clone, Copy, Debug, Default, PartialEq, Eq)]
 pub struct Leg {
     pub readings: u32,
     pub total: u32,
@@ -35,32 +35,27 @@ impl Kind for LegKind {
     ghost checked = { leg_checked };
 
     fn empty_entry() -> Leg {
-        Leg {
-            readings: 0,
-            total: 0,
-            least: 0,
-            greatest: 0,
-        }
+        Leg::default()
     }
 
     fn accepts(given: u32) -> bool {
-        SHORTEST <= given && given <= LONGEST
+        (SHORTEST..=LONGEST).contains(&given)
     }
 
     fn join(entry: Leg, given: u32) -> Leg {
-        if !<LegKind as Kind>::accepts(given) {
+        if !Self::accepts(given) {
             return entry;
         }
-        let first = entry.readings == 0;
+        let (least, greatest) = if entry.readings == 0 {
+            (given, given)
+        } else {
+            (entry.least.min(given), entry.greatest.max(given))
+        };
         Leg {
             readings: entry.readings.saturating_add(1),
             total: entry.total.saturating_add(given),
-            least: if first { given } else { entry.least.min(given) },
-            greatest: if first {
-                given
-            } else {
-                entry.greatest.max(given)
-            },
+            least,
+            greatest,
         }
     }
 

@@ -12,7 +12,8 @@ pub struct Station {
 // Expeditions are numbered below this.
 const EXPEDITIONS: u8 = 32;
 
-// `first` of a station that no expedition has been at.
+// `first` of a station that no expedition has been at. It is a number and no Option, since a station is defined as
+// just these 8 and 32 bits.
 const NOBODY: u8 = 255;
 
 // A station has been checked once this many expeditions were at it.
@@ -45,7 +46,7 @@ impl Kind for StationKind {
     }
 
     fn join(entry: Station, given: u8) -> Station {
-        if !<StationKind as Kind>::accepts(given) {
+        if !Self::accepts(given) {
             return entry;
         }
         let first = if entry.first == NOBODY {

@@ -4,6 +4,7 @@
 pub mod stretch;
 
 pub use stretch::Range;
+pub use stretch::making::{COUNT, PLACES};
 
 #[cfg(test)]
 mod tests;

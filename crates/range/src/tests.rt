@@ -1,13 +1,13 @@
 // Ranges at their limits.
 use crate::stretch::Range;
+use refusal::Refusal;
 use std::test::Fail;
 
 // The refusal's number, or 0 where the range is made.
 fn refused(places: usize, first: usize, count: usize) -> u32 {
-    match Range::within(places, first, count) {
-        Ok(_) => 0,
-        Err(e) => e.number(),
-    }
+    Range::within(places, first, count)
+        .err()
+        .map_or(0, Refusal::number)
 }
 
 #[test]
@@ -37,9 +37,7 @@ fn at_the_limits(rt: HostRuntime) {
 
 #[test]
 fn holds_what_it_was_made_of(rt: HostRuntime) -> Result<(), Fail> {
-    let Ok(range) = Range::within(40, 8, 32) else {
-        return Err(Fail::new("refused"));
-    };
+    let range = Range::within(40, 8, 32)?;
     assert_eq!(rt; range.first(), 8);
     assert_eq!(rt; range.count(), 32);
     assert_eq!(rt; range.places(), 40);

@@ -5,27 +5,29 @@ ghost use Rattle.range.specs.Makings.{Makes};
 use super::Range;
 use refusal::Refusal;
 
-// The most places of a book, and the most of one range.
-const PLACES: usize = 4_096;
+// The most places of a book.
+pub const PLACES: usize = 4_096;
 
-const COUNT: usize = 32;
+// The most places of one range.
+pub const COUNT: usize = 32;
 
 impl Range {
     // The `count` places from `first` on, of a book of `places` places.
     pub fn within(places: usize, first: usize, count: usize) -> Result<Range, Refusal>
         ensures { Makes places first count result }
     {
-        if places < 1 || places > PLACES || count < 1 || count > COUNT {
-            return Err(Refusal::OutsideLimits);
+        let is_inside = (1..=PLACES).contains(&places)
+            && (1..=COUNT).contains(&count)
+            && first.checked_add(count).is_some_and(|end| end <= places);
+        if is_inside {
+            Ok(Range {
+                first,
+                count,
+                places,
+            })
+        } else {
+            Err(Refusal::OutsideLimits)
         }
-        if count > places || first > places - count {
-            return Err(Refusal::OutsideLimits);
-        }
-        Ok(Range {
-            first,
-            count,
-            places,
-        })
     }
 
     pub fn first(&self) -> usize
