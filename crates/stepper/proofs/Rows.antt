@@ -1,26 +1,30 @@
--- The rows of the job table stay sound.
-use Rattle.std.proofs.Common.{◌≡◌, ℕ, zero, suc, ◌<◌, ◌≤◌, List, length, set, replicate, sym, refl, ap, ◌∙◌, subst, inl, inr, arith, length-set, get_or-set_other, get_or-set_same}
+-- The rows of the job table keep their invariants.
+use Rattle.std.proofs.Common.{◌≡◌, ◌≢◌, ℕ, zero, suc, ◌<◌, List, length, set, replicate, sym, refl, subst, inl, inr, ◌∙◌, Some, None, Option, get_or-set_other, get_or-set_same}
 use Rattle.std.proofs.lemmas.Bool.{cases_eq}
+use Rattle.lock.specs.declared.words.Phase.{Phase}
+use Rattle.lock.specs.declared.words.Phase.TheVariants.{Idle}
 use Rattle.stepper.specs.declared.job.Job.{Job}
-use Rattle.stepper.specs.Jobs.{no_job, row_of, Sound, AllSound}
+use Rattle.stepper.specs.Jobs.{row_of, Sound, AllSound, AllTaken}
 
-all_none : (n i : ℕ) → row_of (replicate n no_job) i ≡ no_job
-all_none zero i = refl
-all_none (suc n) zero = refl
-all_none (suc n) (suc i) = all_none n i
+-- at the start no slot has a job
+pub no_rows : (n i : ℕ) → row_of (replicate n None) i ≡ None
+no_rows zero i = refl
+no_rows (suc n) zero = refl
+no_rows (suc n) (suc i) = no_rows n i
 
-pub none_sound : (places : ℕ) → 1 ≤ places → places ≤ 4096 → AllSound places (replicate 32 no_job)
-none_sound places l u i = subst (Sound places) (sym (all_none 32 i)) ((omega arith, omega arith, omega arith, omega arith, omega arith), omega arith)
-
-set_sound : (places : ℕ) (jobs : List Job) (i : ℕ) (j : Job) → i < length jobs → AllSound places jobs → Sound places j → AllSound places (set jobs i j)
-set_sound places jobs i j l all new k =
+-- where slot i gets the sound job j, the jobs stay sound
+pub put_sound : (places : ℕ) (jobs : List (Option Job)) (i : ℕ) (j : Job) → i < length jobs → AllSound places jobs → Sound places j → AllSound places (set jobs i (Some j))
+put_sound places jobs i j l all new k x e =
     elim (cases_eq k i) [
-      | inl e ↦ subst (λ x. Sound places (row_of (set jobs i j) x)) (sym e) (subst (Sound places) (sym (get_or-set_same jobs i j no_job l)) new)
-      | inr n ↦ subst (Sound places) (sym (get_or-set_other jobs i k j no_job n)) (all k)
+      | inl same ↦ let here : row_of (set jobs i (Some j)) k ≡ Some j = subst (λ y. row_of (set jobs i (Some j)) y ≡ Some j) (sym same) (get_or-set_same jobs i (Some j) None l) in
+          let is : x ≡ j = cc in subst (Sound places) (sym is) new
+      | inr n ↦ all k x (sym (get_or-set_other jobs i k (Some j) None n) ∙ e)
     ]
 
--- what an open book keeps of its table when slot i's row becomes j
-pub put_keeps : (places : ℕ) (jobs : List Job) (i : ℕ) (j : Job) (now : List Job) → now ≡ set jobs i j → i < 32 → length jobs ≡ 32 → AllSound places jobs → Sound places j
-    → record { full : length now ≡ 32; sound : AllSound places now }
-put_keeps places jobs i j now e h full all new =
-    record { full = ap length e ∙ simp length-set full; sound = subst (AllSound places) (sym e) (set_sound places jobs i j (omega arith) all new) }
+-- and whoever had a job has one
+pub put_taken : (phase : ℕ → Phase) (jobs : List (Option Job)) (i : ℕ) (j : Job) → i < length jobs → AllTaken phase jobs → AllTaken phase (set jobs i (Some j))
+put_taken phase jobs i j l all k busy e =
+    elim (cases_eq k i) [
+      | inl same ↦ let here : row_of (set jobs i (Some j)) k ≡ Some j = subst (λ y. row_of (set jobs i (Some j)) y ≡ Some j) (sym same) (get_or-set_same jobs i (Some j) None l) in cc
+      | inr n ↦ all k busy (sym (get_or-set_other jobs i k (Some j) None n) ∙ e)
+    ]

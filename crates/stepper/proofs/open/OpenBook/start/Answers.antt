@@ -1,10 +1,10 @@
-use Rattle.std.proofs.Common.{length, sym, ap, subst}
-use Rattle.stepper.specs.Jobs.{AllSound}
-use Rattle.stepper.proofs.Rows.{none_sound}
+use Rattle.std.proofs.Common.{Some, None, ap, sym, ◌∙◌, length}
+use Rattle.stepper.specs.Jobs.{row_of}
+use Rattle.stepper.proofs.Rows.{no_rows}
 use Rattle.stepper.proofs.open.OpenBook.start.Goals as goal
 
-pub invariant_of-result : goal.invariant_of-result
-invariant_of-result g c =
-    let e = c.none.ensures in
-    let sized = c.requires.sized in
-    record { few = c.requires.few; full = ap length e; sound = subst (AllSound c.args.places) (sym e) (none_sound c.args.places sized.0 sized.1) }
+pub invariant_of-result-clause-sound : goal.invariant_of-result-clause-sound
+invariant_of-result-clause-sound g c i x e = let none = ap (λ xs. row_of xs i) c.filled.ensures ∙ no_rows 32 i in absurd cc
+
+pub invariant_of-result-clause-taken : goal.invariant_of-result-clause-taken
+invariant_of-result-clause-taken g c i busy e = busy (g.met.L.Lock.opened c.args.ready.slots.count c.fresh.result c.fresh.ensures i)
