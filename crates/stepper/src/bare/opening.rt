@@ -36,7 +36,8 @@ impl BareBook {
         if book.len() != self.places {
             return Err(Refusal::ListLength);
         }
-        if place >= book.len() {
+        // Tested and then indexed: `get_mut` of a slice tells a proof nothing of the elements.
+        if place >= self.places {
             return Err(Refusal::OutsideLimits);
         }
         book[place] = entry;

@@ -1,18 +1,16 @@
 // Reading and writing: a slot takes a job.
-ghost use Rattle.std.specs.Prelude.{◌≡◌, ◌+◌, ◌*◌, ◌≤◌, length, slice_set, true, false, Some, None, IfOk, IfErr};
-ghost use Rattle.std.proofs.Math.Seq.{paste};
+ghost use Rattle.std.specs.Prelude.{◌≡◌, ◌+◌, ◌<◌, slice_set, false, Some};
 ghost use Rattle.lock.specs.declared.words.Class.TheVariants.{Writing};
 ghost use Rattle.lock.specs.declared.words.Phase.TheVariants.{Idle};
 ghost use Rattle.stepper.specs.Calls.{DidRead, DidWrite, claim_on};
 ghost use Rattle.stepper.specs.Jobs.{new_job};
-ghost use Rattle.stepper.specs.Refusals.{room_refusal};
 ghost use Rattle.stepper.specs.State.{state};
 
 use super::OpenBook;
 use super::checks::all_accepted;
 use crate::claim::Claim;
 use crate::job::Job;
-use crate::limits::{EACH, JOBS};
+use crate::limits::EACH;
 use crate::lists::Lengths;
 use entry::Kind;
 use lock::{Class, Lock};
@@ -35,7 +33,8 @@ impl<L: Lock> OpenBook<L> {
     {
         let slot = self.check_call(Lengths::of(book, rows, givens), slot)?;
         let range = self.check_job(slot, first, count)?;
-        self.take_on(slot, Class::Reading, range)
+        self.check_room()?;
+        Ok(self.take_on(slot, Class::Reading, range))
     }
 
     // A job that joins the handed givens into the places from `first` on. They are copied at once, to the slot's
@@ -59,30 +58,27 @@ impl<L: Lock> OpenBook<L> {
         if self.lock.is_barred(slot) {
             return Err(Refusal::SlotBarred);
         }
-        let claim = self.take_on(slot, Class::Writing, range)?;
+        self.check_room()?;
         let start = EACH * slot.index();
         givens[start..start + handed.len()].copy_from_slice(handed);
-        Ok(claim)
+        Ok(self.take_on(slot, Class::Writing, range))
     }
 
-    // The slot takes the next job, on a range of this book, and calls for the lock.
-    fn take_on(&mut self, slot: Slot, class: Class, range: Range) -> Result<Claim, Refusal>
+    // The slot takes the next job, on a range of this book, and calls for the lock, which can't refuse it.
+    fn take_on(&mut self, slot: Slot, class: Class, range: Range) -> Claim
         requires idle { L.phases self.old.lock slot.index ≡ Idle }
         requires free { class ≡ Writing → L.bars self.old.lock slot.index ≡ false }
         requires places { range.places ≡ self.old.bare.places }
-        ensures refused { IfErr result (λ e. (room_refusal self.old.accepted ≡ Some e) × (self.new ≡ self.old)) }
-        ensures room { IfOk result (λ c. room_refusal self.old.accepted ≡ None) }
-        ensures claim { IfOk result (λ c. c ≡ claim_on slot.index (self.old.accepted + 1)) }
-        ensures slots { IfOk result (λ c. self.new.slots ≡ self.old.slots) }
-        ensures bare { IfOk result (λ c. self.new.bare ≡ self.old.bare) }
-        ensures accepted { IfOk result (λ c. self.new.accepted ≡ self.old.accepted + 1) }
-        ensures jobs { IfOk result (λ c. self.new.jobs.slots ≡ slice_set self.old.jobs.slots slot.index (Some (new_job (self.old.accepted + 1) class range.first range.count))) }
-        ensures lock { IfOk result (λ c. L.calls self.old.lock slot.index class self.new.lock) }
+        requires room { self.old.accepted < 1000000 }
+        ensures claim { result ≡ claim_on slot.index (self.old.accepted + 1) }
+        ensures kept { (self.new.slots ≡ self.old.slots) × (self.new.bare ≡ self.old.bare) }
+        ensures accepted { self.new.accepted ≡ self.old.accepted + 1 }
+        ensures jobs { self.new.jobs.slots ≡ slice_set self.old.jobs.slots slot.index (Some (new_job (self.old.accepted + 1) class range.first range.count)) }
+        ensures lock { L.calls self.old.lock slot.index class self.new.lock }
     {
-        if self.accepted >= JOBS {
-            return Err(Refusal::JobsExhausted);
-        }
-        self.lock.call(slot, class)?;
+        let Ok(()) = self.lock.call(slot, class) else {
+            unreachable!()
+        };
         let number = self.accepted + 1;
         self.accepted = number;
         self.jobs.put(
@@ -96,6 +92,6 @@ impl<L: Lock> OpenBook<L> {
                 joined: false,
             }),
         );
-        Ok(Claim::new(slot.index(), number))
+        Claim::new(slot.index(), number)
     }
 }

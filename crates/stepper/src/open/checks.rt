@@ -1,13 +1,14 @@
 // What calls of an open book try before they change anything.
-ghost use Rattle.std.specs.Prelude.{◌≡◌, ◌<◌, IfOk, OnOk};
+ghost use Rattle.std.specs.Prelude.{◌≡◌, ◌<◌, Some, None, IfOk, OnOk, MatchResult};
 ghost use Rattle.std.specs.List.{list_all};
 ghost use Rattle.lock.specs.declared.words.Phase.TheVariants.{Idle};
 ghost use Rattle.stepper.specs.Checks.{Tried};
 ghost use Rattle.stepper.specs.Jobs.{row_of};
 ghost use Rattle.stepper.specs.Lists.{Fit};
-ghost use Rattle.stepper.specs.Refusals.{lent_refusal, slot_refusal, is_free};
+ghost use Rattle.stepper.specs.Refusals.{lent_refusal, slot_refusal, room_refusal, is_free};
 
 use super::OpenBook;
+use crate::limits::JOBS;
 use crate::lists::Lengths;
 use entry::Kind;
 use lock::Lock;
@@ -38,6 +39,17 @@ impl<L: Lock> OpenBook<L> {
             return Err(Refusal::SlotBusy);
         }
         Range::within(self.bare.places, first, count)
+    }
+
+    // Last it tries whether one more job may be accepted.
+    pub(crate) fn check_room(&self) -> Result<(), Refusal>
+        ensures tried { MatchResult result (λ _. room_refusal self.now.accepted ≡ None) (λ e. room_refusal self.now.accepted ≡ Some e) }
+        ensures room { OnOk result (self.now.accepted < 1000000) }
+    {
+        if self.accepted >= JOBS {
+            return Err(Refusal::JobsExhausted);
+        }
+        Ok(())
     }
 }
 

@@ -1,7 +1,7 @@
 // One step of a slot: a memory access of its lock, or a piece of work of its job.
-ghost use Rattle.std.specs.Prelude.{◌≡◌, ◌<◌, true, Some};
+ghost use Rattle.std.specs.Prelude.{◌≡◌, ◌<◌, Some, slice_set};
 ghost use Rattle.lock.specs.declared.words.Phase.TheVariants.{Holds};
-ghost use Rattle.stepper.specs.Jobs.{row_of};
+ghost use Rattle.stepper.specs.Jobs.{row_of, Sound};
 ghost use Rattle.stepper.specs.Lists.{lengths_of, Fit};
 ghost use Rattle.stepper.specs.State.{state};
 ghost use Rattle.stepper.specs.Steps.{DidStep, HoldWorks, Passes, passed_jobs, is_last};
@@ -63,8 +63,7 @@ impl<L: Lock> OpenBook<L> {
                     joined: true,
                     ..job
                 };
-                self.jobs.put(slot, Some(joined));
-                self.lock.stand(slot)
+                self.goes_on(slot, joined)
             }
             (Class::Writing, true) => {
                 book[place] = rows[own];
@@ -94,9 +93,7 @@ impl<L: Lock> OpenBook<L> {
         requires holds { L.phases self.old.lock slot.index ≡ Holds }
         requires row { row_of self.old.jobs.slots slot.index ≡ Some job }
         ensures answer { result ≡ (L.phases self.new.lock slot.index, L.labels self.new.lock slot.index) }
-        ensures slots { self.new.slots ≡ self.old.slots }
-        ensures bare { self.new.bare ≡ self.old.bare }
-        ensures accepted { self.new.accepted ≡ self.old.accepted }
+        ensures kept { (self.new.slots ≡ self.old.slots) × (self.new.bare ≡ self.old.bare) × (self.new.accepted ≡ self.old.accepted) }
         ensures jobs { self.new.jobs.slots ≡ passed_jobs self.old.jobs.slots slot.index job }
         ensures lock { Passes L.Lock (is_last job) self.old.lock slot.index self.new.lock }
     {
@@ -108,7 +105,18 @@ impl<L: Lock> OpenBook<L> {
             joined: false,
             ..job
         };
-        self.jobs.put(slot, Some(next));
+        self.goes_on(slot, next)
+    }
+
+    // The slot still holds, with its job as it is now.
+    fn goes_on(&mut self, slot: Slot, job: Job) -> (Phase, L::Label)
+        requires { Sound self.old.bare.places job }
+        ensures answer { result ≡ (L.phases self.new.lock slot.index, L.labels self.new.lock slot.index) }
+        ensures kept { (self.new.slots ≡ self.old.slots) × (self.new.bare ≡ self.old.bare) × (self.new.accepted ≡ self.old.accepted) }
+        ensures jobs { self.new.jobs.slots ≡ slice_set self.old.jobs.slots slot.index (Some job) }
+        ensures lock { self.new.lock ≡ self.old.lock }
+    {
+        self.jobs.put(slot, Some(job));
         self.lock.stand(slot)
     }
 }

@@ -1,10 +1,12 @@
-use Rattle.std.proofs.Common.{Some, None, ap, sym, ◌∙◌, length}
+use Rattle.std.proofs.Common.{◌≡◌, ℕ, zero, suc, replicate, Some, None, refl, ap, ◌∙◌}
 use Rattle.stepper.specs.Jobs.{row_of}
-use Rattle.stepper.proofs.Rows.{no_rows}
 use Rattle.stepper.proofs.open.OpenBook.start.Goals as goal
+
+-- at the start no slot has a job
+no_rows : (n i : ℕ) → row_of (replicate n None) i ≡ None
+no_rows zero i = refl
+no_rows (suc n) zero = refl
+no_rows (suc n) (suc i) = no_rows n i
 
 pub invariant_of-result-clause-sound : goal.invariant_of-result-clause-sound
 invariant_of-result-clause-sound g c i x e = let none = ap (λ xs. row_of xs i) c.filled.ensures ∙ no_rows 32 i in absurd cc
-
-pub invariant_of-result-clause-taken : goal.invariant_of-result-clause-taken
-invariant_of-result-clause-taken g c i busy e = busy (g.met.L.Lock.opened c.args.ready.slots.count c.fresh.result c.fresh.ensures i)
