@@ -35,7 +35,7 @@ opening_refusal b n lent = cond (nat_le 1 n && nat_le n 32) (cond (lengths_fit b
 -- no job was accepted yet, and the lock is fresh
 pub record Opened {L Label H G : Type 0} (k : lock.Ghosts L Label) (b : BareBook) (n : ℕ) (s : State L H G) : Type 0 where
   pub fresh : k.opens n s.lock
-  pub whole : s ≡ record { slots = n; places = b.places; accepted = 0; jobs = replicate 32 None; lock = s.lock; book = s.book; rows = s.rows; givens = s.givens }
+  pub whole : s ≡ record s { slots = n; places = b.places; accepted = 0; jobs = replicate 32 None }
 
 -- a refusal hands the bare book back
 abbrev pub DidOpen : {L Label H G : Type 0} (k : lock.Ghosts L Label) → BareBook → ℕ → List H → List H → List G → Result (OpenBook L Label k) (BareBook × Refusal) → Type 0

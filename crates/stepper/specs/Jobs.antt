@@ -17,11 +17,11 @@ row_of jobs i = slice_index_or jobs i None
 
 -- its next place's given is joined
 abbrev pub with_joined : Job → Job
-with_joined j = record { number = j.number; class = j.class; first = j.first; count = j.count; done = j.done; joined = true }
+with_joined j = record j { joined = true }
 
 -- one more of its places is done
 abbrev pub next_place : Job → Job
-next_place j = record { number = j.number; class = j.class; first = j.first; count = j.count; done = j.done + 1; joined = false }
+next_place j = record j { done = j.done + 1; joined = false }
 
 -- a job's places lie inside the book, and one of them is next
 abbrev pub Sound : ℕ → Job → Type 0

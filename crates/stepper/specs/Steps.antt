@@ -52,7 +52,7 @@ Passes k false l i m = m ≡ l
 
 -- the state with other jobs, another lock, book and rows
 abbrev pub worked : {L H G : Type 0} → State L H G → List (Option Job) → L → List H → List H → State L H G
-worked s jobs l book rows = record { slots = s.slots; places = s.places; accepted = s.accepted; jobs = jobs; lock = l; book = book; rows = rows; givens = s.givens }
+worked s jobs l book rows = record s { jobs = jobs; lock = l; book = book; rows = rows }
 
 -- one piece of work of slot i with the job j: a reader copies; a writer joins, then puts
 abbrev pub Works : {L Label K H G : Type 0} → lock.Ghosts L Label → kind.Ghosts K H G → State L H G → ℕ → Job → Class → Bool → State L H G → Type 0

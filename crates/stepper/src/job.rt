@@ -8,7 +8,8 @@ pub struct Job {
     // Plain numbers: a step makes the range of them anew.
     pub first: usize,
     pub count: usize,
-    // How many places are done, the last one never counted, and whether the next one's given is joined already.
+    // How many places are done, the last one never counted, and whether the next one's given is joined already. That
+    // stands beside the class, so that after a place both classes go on alike.
     pub done: usize,
     pub joined: bool,
 }

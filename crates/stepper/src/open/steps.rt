@@ -28,11 +28,11 @@ impl<L: Lock> OpenBook<L> {
         ensures { DidStep L.Lock K.Kind (state self.old book.old rows.old givens.now) slot result (state self.new book.new rows.new givens.now) }
     {
         let slot = self.check_call(Lengths::of(book, rows, givens), slot)?;
-        match self.lock.phase(slot) {
-            Phase::Idle => Ok(self.lock.stand(slot)),
-            Phase::Called | Phase::Waits | Phase::Leaves => Ok(self.lock.step(slot)),
-            Phase::Holds => Ok(self.work::<K>(book, rows, givens, slot)),
-        }
+        Ok(match self.lock.phase(slot) {
+            Phase::Idle => self.lock.stand(slot),
+            Phase::Called | Phase::Waits | Phase::Leaves => self.lock.step(slot),
+            Phase::Holds => self.work::<K>(book, rows, givens, slot),
+        })
     }
 
     // One piece of work of a slot that holds.
