@@ -1,11 +1,11 @@
 -- What making a range answers.
 use Rattle.std.specs.Prelude.{◌≡◌, ℕ, Ok, Err, Result}
-use Rattle.refusal.specs.Numbers.{number_of}
 use Rattle.refusal.specs.declared.reason.Refusal.{Refusal}
+use Rattle.refusal.specs.declared.reason.Refusal.TheVariants.{OutsideLimits}
 use Rattle.range.specs.declared.stretch.Range.{Range}
 use Rattle.range.specs.Limits.{Inside}
 
--- a range of just these numbers where they lie inside, else 5
+-- a range of just these numbers where they lie inside, else the refusal of number 5
 abbrev pub Makes : ℕ → ℕ → ℕ → Result Range Refusal → Type 0
 Makes places first count (Ok r) = (r.places ≡ places) × (r.first ≡ first) × (r.count ≡ count)
-Makes places first count (Err e) = (number_of e ≡ 5) × (Inside places first count → ⊥)
+Makes places first count (Err e) = (e ≡ OutsideLimits) × (Inside places first count → ⊥)

@@ -18,14 +18,10 @@ claim_on i n = record { slot = i; number = n }
 
 -- slot i has taken the next job, of class c, on n places from f on
 abbrev pub with_job : {L H G : Type 0} → State L H G → ℕ → Class → ℕ → ℕ → L → List G → State L H G
-with_job s i c f n l gs = record {
-  slots = s.slots;
-  places = s.places;
+with_job s i c f n l gs = record s {
   accepted = s.accepted + 1;
-  jobs = slice_set s.jobs i (new_job (s.accepted + 1) c f n);
+  jobs = slice_set s.jobs i (Some (new_job (s.accepted + 1) c f n));
   lock = l;
-  book = s.book;
-  rows = s.rows;
   givens = gs;
 }
 

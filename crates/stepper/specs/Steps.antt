@@ -41,9 +41,9 @@ put_book d i j book rows = slice_set book (place_of j) (slice_index_or rows (own
 abbrev pub is_last : Job → Bool
 is_last j = j.done + 1 == j.count
 
--- the jobs after slot i's place is done; after its last place they stay
-abbrev pub passed_jobs : List Job → ℕ → List Job
-passed_jobs jobs i = cond (is_last (row_of jobs i)) jobs (slice_set jobs i (next_place (row_of jobs i)))
+-- the jobs after a place of slot i's job j is done; after its last place they stay
+abbrev pub passed_jobs : List (Option Job) → ℕ → Job → List (Option Job)
+passed_jobs jobs i j = cond (is_last j) jobs (slice_set jobs i (Some (next_place j)))
 
 -- the lock after a place is done: the last place also finishes the hold
 abbrev pub Passes : {L Label : Type 0} → lock.Ghosts L Label → Bool → L → ℕ → L → Type 0
@@ -51,24 +51,29 @@ Passes k true l i m = k.finishes l i m
 Passes k false l i m = m ≡ l
 
 -- the state with other jobs, another lock, book and rows
-abbrev pub worked : {L H G : Type 0} → State L H G → List Job → L → List H → List H → State L H G
-worked s jobs l book rows = record { slots = s.slots; places = s.places; accepted = s.accepted; jobs = jobs; lock = l; book = book; rows = rows; givens = s.givens }
+abbrev pub worked : {L H G : Type 0} → State L H G → List (Option Job) → L → List H → List H → State L H G
+worked s jobs l book rows = record s { jobs = jobs; lock = l; book = book; rows = rows }
 
--- one piece of work of slot i with the row j: a reader copies; a writer joins, then puts
+-- one piece of work of slot i with the job j: a reader copies; a writer joins, then puts
 abbrev pub Works : {L Label K H G : Type 0} → lock.Ghosts L Label → kind.Ghosts K H G → State L H G → ℕ → Job → Class → Bool → State L H G → Type 0
 Works k d s i j Reading b t =
-    Passes k (is_last j) s.lock i t.lock × (t ≡ worked s (passed_jobs s.jobs i) t.lock s.book (copied_rows d i j s.book s.rows))
+    Passes k (is_last j) s.lock i t.lock × (t ≡ worked s (passed_jobs s.jobs i j) t.lock s.book (copied_rows d i j s.book s.rows))
 Works k d s i j Writing false t =
-    (t.lock ≡ s.lock) × (t ≡ worked s (slice_set s.jobs i (with_joined j)) t.lock s.book (joined_rows d i j s.book s.rows s.givens))
+    (t.lock ≡ s.lock) × (t ≡ worked s (slice_set s.jobs i (Some (with_joined j))) t.lock s.book (joined_rows d i j s.book s.rows s.givens))
 Works k d s i j Writing true t =
-    Passes k (is_last j) s.lock i t.lock × (t ≡ worked s (passed_jobs s.jobs i) t.lock (put_book d i j s.book s.rows) s.rows)
+    Passes k (is_last j) s.lock i t.lock × (t ≡ worked s (passed_jobs s.jobs i j) t.lock (put_book d i j s.book s.rows) s.rows)
+
+-- one piece of work of a slot that holds: it has a job
+abbrev pub HoldWorks : {L Label K H G : Type 0} → lock.Ghosts L Label → kind.Ghosts K H G → State L H G → ℕ → Option Job → State L H G → Type 0
+HoldWorks k d s i None t = ⊥
+HoldWorks k d s i (Some j) t = Works k d s i j j.class j.joined t
 
 -- a step of slot i, by its phase: an idle slot does nothing, a holding one works, any other makes a lock step
 abbrev pub Takes : {L Label K H G : Type 0} → lock.Ghosts L Label → kind.Ghosts K H G → State L H G → ℕ → Phase → State L H G → Type 0
 Takes k d s i Idle t = t ≡ s
 Takes k d s i Called t = k.steps s.lock i t.lock × (t ≡ worked s s.jobs t.lock s.book s.rows)
 Takes k d s i Waits t = k.steps s.lock i t.lock × (t ≡ worked s s.jobs t.lock s.book s.rows)
-Takes k d s i Holds t = let j = row_of s.jobs i in Works k d s i j j.class j.joined t
+Takes k d s i Holds t = HoldWorks k d s i (row_of s.jobs i) t
 Takes k d s i Leaves t = k.steps s.lock i t.lock × (t ≡ worked s s.jobs t.lock s.book s.rows)
 
 -- 2, then 3

@@ -5,6 +5,7 @@ pub mod bare;
 pub mod claim;
 mod job;
 mod limits;
+mod lists;
 pub mod open;
 
 pub use bare::BareBook;

@@ -1,11 +1,11 @@
 // Making, presetting and opening at their limits.
-use crate::bench::{leg, lend, shows};
-use entry::LegKind;
+use crate::bench::{leg, lend, number, shows};
+use entry::{Leg, LegKind};
 use plain_lock::PlainLock;
 use refusal::Refusal;
 use std::alloc::{AllocError, Global};
 use std::test::Fail;
-use stepper::BareBook;
+use stepper::{BareBook, OpenBook};
 
 // The refusal's number of making a book and then opening it with such lists, or 0.
 fn refused(
@@ -18,17 +18,10 @@ fn refused(
 ) -> Result<u32, AllocError> {
     let mut made = lend(heap, places, 0, 0)?;
     let lent = lend(heap, book, rows, givens)?;
-    let bare = match BareBook::new::<LegKind>(&mut made.book) {
-        Ok(bare) => bare,
-        Err(refusal) => return Ok(refusal.number()),
-    };
-    match bare.open::<PlainLock, LegKind>(slots, &lent.book, &lent.rows, &lent.givens) {
-        Ok(_) => Ok(0),
-        Err(back) => {
-            let (_, refusal) = back;
-            Ok(refusal.number())
-        }
-    }
+    let opened: Result<OpenBook<PlainLock>, Refusal> = BareBook::new::<LegKind>(
+        &mut made.book,
+    ).and_then(|bare| lent.open(bare, slots));
+    Ok(number(opened))
 }
 
 #[test]
@@ -51,21 +44,13 @@ fn opens_within_the_limits(rt: HostRuntime) -> Result<(), Fail> {
         (2, 4_096, 4_096, 64, 64, 0),
         (2, 4_097, 4_097, 64, 64, 2),
     ];
-    for (slots, places, book, rows, givens, number) in cases {
+    for (slots, places, book, rows, givens, refusal) in cases {
         assert_eq!(rt;
             refused(rt.alloc(), slots, places, book, rows, givens)?,
-            number
+            refusal
         );
     }
     Ok(())
-}
-
-// The number of the refusal, or 0.
-fn number(preset: Result<(), Refusal>) -> u32 {
-    match preset {
-        Ok(()) => 0,
-        Err(refusal) => refusal.number(),
-    }
 }
 
 #[test]
@@ -73,8 +58,13 @@ fn presets_any_entry(rt: HostRuntime) -> Result<(), Fail> {
     let mut made = lend(rt.alloc(), 3, 0, 0)?;
     let mut longer = lend(rt.alloc(), 4, 0, 0)?;
     let bare = BareBook::new::<LegKind>(&mut made.book)?;
-    let empty = leg(0, 0, 0, 0);
-    let odd = leg(0, 1, 2, 3);
+    let empty = Leg::default();
+    let odd = Leg {
+        readings: 0,
+        total: 1,
+        least: 2,
+        greatest: 3,
+    };
     shows(&rt, &made.book, 0, [empty; 3]);
     let inside = number(bare.preset::<LegKind>(&mut made.book, 2, odd));
     let past = number(bare.preset::<LegKind>(&mut made.book, 3, empty));
@@ -82,6 +72,6 @@ fn presets_any_entry(rt: HostRuntime) -> Result<(), Fail> {
     let elsewhere = number(bare.preset::<LegKind>(&mut longer.book, 4, empty));
     assert_eq!(rt; (inside, past, far, elsewhere), (0, 5, 5, 2));
     shows(&rt, &made.book, 0, [empty, empty, odd]);
-    shows(&rt, &longer.book, 0, [leg(7, 7, 7, 7); 4]);
+    shows(&rt, &longer.book, 0, [leg(7, 7); 4]);
     Ok(())
 }

@@ -1,6 +1,6 @@
 // Jobs step by step.
-use crate::bench::{Lists, leg, lend, opened, shows};
-use entry::LegKind;
+use crate::bench::{Lists, leg, lend, number, opened, shows};
+use entry::Leg;
 use lock::{Lock, Phase};
 use plain_lock::PlainLock;
 use plain_words::Label;
@@ -15,7 +15,7 @@ fn steps_to_end<L: Lock>(
     slot: usize,
 ) -> Result<u32, Fail> {
     for count in 1..=100 {
-        let (phase, _) = legs.step::<LegKind>(&mut lent.book, &mut lent.rows, &lent.givens, slot)?;
+        let (phase, _) = lent.step(legs, slot)?;
         if phase == Phase::Idle {
             return Ok(count);
         }
@@ -27,20 +27,13 @@ fn steps_to_end<L: Lock>(
 fn a_write_by_the_plain_lock(rt: HostRuntime) -> Result<(), Fail> {
     let mut lent = lend(rt.alloc(), 4, 64, 64)?;
     let mut legs = opened::<PlainLock>(2, &mut lent)?;
-    let claim = legs.write::<LegKind>(&lent.book, &lent.rows, &mut lent.givens, 0, 1, &[3_120])?;
-    assert_eq!(rt; claim.give_up(), (0, 1));
+    assert_eq!(rt; lent.write(&mut legs, 0, 1, &[3_120])?, (0, 1));
     for label in [Label::H, Label::H, Label::P5, Label::I] {
-        let (_, at) = legs.step::<LegKind>(&mut lent.book, &mut lent.rows, &lent.givens, 0)?;
+        let (_, at) = lent.step(&mut legs, 0)?;
         assert_eq!(rt; at, label);
     }
-    shows(
-        &rt,
-        &lent.book,
-        0,
-        [leg(0, 0, 0, 0), leg(1, 3_120, 3_120, 3_120)],
-    );
-    let (phase, label) = legs.step::<LegKind>(&mut lent.book, &mut lent.rows, &lent.givens, 1)?;
-    assert_eq!(rt; (phase, label), (Phase::Idle, Label::I));
+    shows(&rt, &lent.book, 0, [Leg::default(), leg(1, 3_120)]);
+    assert_eq!(rt; lent.step(&mut legs, 1)?, (Phase::Idle, Label::I));
     Ok(())
 }
 
@@ -52,8 +45,7 @@ fn steps_of_read<L: Lock>(
     first: usize,
     count: usize,
 ) -> Result<u32, Fail> {
-    let claim = legs.read::<LegKind>(&lent.book, &lent.rows, &lent.givens, slot, first, count)?;
-    let _ = claim.give_up();
+    lent.read(legs, slot, first, count)?;
     steps_to_end(legs, lent, slot)
 }
 
@@ -61,11 +53,10 @@ fn steps_of_read<L: Lock>(
 fn lone_jobs_by_the_ticket_lock(rt: HostRuntime) -> Result<(), Fail> {
     let mut lent = lend(rt.alloc(), 4, 64, 64)?;
     let mut legs = opened::<TicketLock>(2, &mut lent)?;
-    let claim = legs.write::<LegKind>(&lent.book, &lent.rows, &mut lent.givens, 1, 3, &[5])?;
-    let _ = claim.give_up();
+    lent.write(&mut legs, 1, 3, &[5])?;
     assert_eq!(rt; steps_to_end(&mut legs, &mut lent, 1)?, 5);
     assert_eq!(rt; steps_of_read(&mut legs, &mut lent, 0, 3, 1)?, 4);
-    shows(&rt, &lent.rows, 0, [leg(1, 5, 5, 5), leg(8, 8, 8, 8)]);
+    shows(&rt, &lent.rows, 0, [leg(1, 5), leg(8, 8)]);
     Ok(())
 }
 
@@ -73,23 +64,17 @@ fn lone_jobs_by_the_ticket_lock(rt: HostRuntime) -> Result<(), Fail> {
 fn ranges_and_a_given_that_is_no_longer_accepted(rt: HostRuntime) -> Result<(), Fail> {
     let mut lent = lend(rt.alloc(), 5, 64, 64)?;
     let mut legs = opened::<TicketLock>(2, &mut lent)?;
-    let write = legs.write::<LegKind>(&lent.book, &lent.rows, &mut lent.givens, 0, 1, &[5, 6, 4])?;
-    let _ = write.give_up();
+    lent.write(&mut legs, 0, 1, &[5, 6, 4])?;
     assert!(rt; lent.givens.len() == 64);
     lent.givens[1] = 0;
     assert_eq!(rt; steps_to_end(&mut legs, &mut lent, 0)?, 9);
     assert_eq!(rt; steps_of_read(&mut legs, &mut lent, 1, 0, 5)?, 8);
+    let empty = Leg::default();
     shows(
         &rt,
         &lent.rows,
         32,
-        [
-            leg(0, 0, 0, 0),
-            leg(1, 5, 5, 5),
-            leg(0, 0, 0, 0),
-            leg(1, 4, 4, 4),
-            leg(0, 0, 0, 0),
-        ],
+        [empty, leg(1, 5), empty, leg(1, 4), empty],
     );
     Ok(())
 }
@@ -108,18 +93,9 @@ fn a_step_is_refused_as_it_should_be(rt: HostRuntime) -> Result<(), Fail> {
     ];
     let mut lent = lend(rt.alloc(), 5, 64, 64)?;
     let mut legs = opened::<PlainLock>(2, &mut lent)?;
-    for (book, rows, givens, slot, number) in cases {
+    for (book, rows, givens, slot, refusal) in cases {
         let mut other = lend(rt.alloc(), book, rows, givens)?;
-        let answer = match legs.step::<LegKind>(
-            &mut other.book,
-            &mut other.rows,
-            &other.givens,
-            slot,
-        ) {
-            Ok(_) => 0,
-            Err(refusal) => refusal.number(),
-        };
-        assert_eq!(rt; answer, number);
+        assert_eq!(rt; number(other.step(&mut legs, slot)), refusal);
     }
     Ok(())
 }

@@ -1,14 +1,15 @@
 // Making, presetting and opening.
-ghost use Rattle.std.specs.Prelude.{◌≡◌, replicate, Some, None, MatchResult};
+ghost use Rattle.std.specs.Prelude.{◌≡◌, Some, None, MatchResult};
 ghost use Rattle.stepper.specs.Bare.{DidMake, DidPreset, DidOpen, opening_refusal};
-ghost use Rattle.stepper.specs.Jobs.{no_job};
 
 use super::{BareBook, Ready};
-use crate::limits::{EACH, PLACES, SLOTS};
+use crate::lists::Lengths;
 use crate::open::OpenBook;
 use entry::Kind;
 use lock::Lock;
+use range::PLACES;
 use refusal::Refusal;
+use slots::Slots;
 
 impl BareBook {
     // Every place of the book is emptied.
@@ -16,12 +17,10 @@ impl BareBook {
         ensures { DidMake K.Kind book.old result book.new }
     {
         let places = book.len();
-        if places < 1 || places > PLACES {
+        if !(1..=PLACES).contains(&places) {
             return Err(Refusal::ListLength);
         }
-        for place in book.iter_mut() {
-            *place = K::empty_entry();
-        }
+        book.fill_with(|| K::empty_entry());
         Ok(BareBook { places })
     }
 
@@ -37,7 +36,8 @@ impl BareBook {
         if book.len() != self.places {
             return Err(Refusal::ListLength);
         }
-        if place >= book.len() {
+        // Tested and then indexed: `get_mut` of a slice tells a proof nothing of the elements.
+        if place >= self.places {
             return Err(Refusal::OutsideLimits);
         }
         book[place] = entry;
@@ -54,40 +54,20 @@ impl BareBook {
     ) -> Result<OpenBook<L>, (BareBook, Refusal)>
         ensures { DidOpen L.Lock self slots book.now rows.now givens.now result }
     {
-        match self.check(slots, book.len(), rows.len(), givens.len()) {
-            Ok(ready) => Ok(ready.make()),
-            Err(back) => Err(back),
-        }
+        let ready = self.check(slots, Lengths::of(book, rows, givens))?;
+        Ok(OpenBook::start(ready))
     }
 
     // May refuse, and then hands the bare book back.
-    fn check(
-        self,
-        slots: usize,
-        book: usize,
-        rows: usize,
-        givens: usize,
-    ) -> Result<Ready, (BareBook, Refusal)>
-        ensures { MatchResult result (λ x. (opening_refusal self slots book rows givens ≡ None) × (x.slots ≡ slots) × (x.places ≡ self.places)) (λ e. (opening_refusal self slots book rows givens ≡ Some e.1) × (e.0 ≡ self)) }
+    fn check(self, slots: usize, lent: Lengths) -> Result<Ready, (BareBook, Refusal)>
+        ensures { MatchResult result (λ x. (opening_refusal self slots lent ≡ None) × (x.slots.count ≡ slots) × (x.bare ≡ self)) (λ e. (opening_refusal self slots lent ≡ Some e.1) × (e.0 ≡ self)) }
     {
-        if slots < 1 || slots > SLOTS {
+        let Some(slots) = Slots::new(slots) else {
             return Err((self, Refusal::SlotCount));
-        }
-        let held = EACH * slots;
-        if book != self.places || rows != held || givens != held {
+        };
+        if !lent.fit(self.places, slots) {
             return Err((self, Refusal::ListLength));
         }
-        let BareBook { places } = self;
-        Ok(Ready { slots, places })
-    }
-}
-
-impl Ready {
-    // Cannot refuse.
-    fn make<L: Lock>(self) -> OpenBook<L>
-        ensures { (L.Lock.opens self.slots result.lock) × (result.slots ≡ self.slots) × (result.places ≡ self.places) × (result.accepted ≡ 0) × (result.jobs.rows ≡ replicate 32 no_job) }
-    {
-        let Ready { slots, places } = self;
-        OpenBook::start(slots, places, L::fresh(slots))
+        Ok(Ready { slots, bare: self })
     }
 }

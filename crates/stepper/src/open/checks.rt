@@ -1,76 +1,60 @@
 // What calls of an open book try before they change anything.
-ghost use Rattle.std.specs.Prelude.{◌≡◌, IfOk, OnOk, nat_lt};
-ghost use Rattle.stepper.specs.Checks.{Tried, Lent, Free};
-ghost use Rattle.stepper.specs.Refusals.{call_refusal, job_refusal, all_accepted};
-ghost use Rattle.stepper.specs.State.{state};
+ghost use Rattle.std.specs.Prelude.{◌≡◌, ◌<◌, Some, None, IfOk, OnOk, MatchResult};
+ghost use Rattle.std.specs.List.{list_all};
+ghost use Rattle.lock.specs.declared.words.Phase.TheVariants.{Idle};
+ghost use Rattle.stepper.specs.Checks.{Tried};
+ghost use Rattle.stepper.specs.Jobs.{row_of};
+ghost use Rattle.stepper.specs.Lists.{Fit};
+ghost use Rattle.stepper.specs.Refusals.{lent_refusal, slot_refusal, room_refusal, is_free};
 
 use super::OpenBook;
-use crate::limits::{EACH, JOBS};
+use crate::limits::JOBS;
+use crate::lists::Lengths;
 use entry::Kind;
-use lock::{Lock, Phase};
+use lock::Lock;
 use range::Range;
 use refusal::Refusal;
+use slots::Slot;
 
 impl<L: Lock> OpenBook<L> {
     // Every call tries first whether the lists are as long as when opened, and then whether there is such a slot.
-    pub(crate) fn check_call<K: Kind>(
-        &self,
-        book: &[K::Held],
-        rows: &[K::Held],
-        givens: &[K::Given],
-        slot: usize,
-    ) -> Result<(), Refusal>
-        ensures tried { Tried (call_refusal (state self.now book.now rows.now givens.now) slot) result }
-        ensures passed { OnOk result (Lent (state self.now book.now rows.now givens.now) slot) }
+    pub(crate) fn check_call(&self, lent: Lengths, slot: usize) -> Result<Slot, Refusal>
+        ensures tried { Tried (lent_refusal self.now.bare.places self.now.slots.count lent slot) result }
+        ensures fit { OnOk result (Fit self.now.bare.places self.now.slots.count lent) }
+        ensures slot { IfOk result (λ s. (s.index ≡ slot) × (slot < self.now.slots.count)) }
     {
-        let held = EACH * self.slots;
-        if book.len() != self.places || rows.len() != held || givens.len() != held {
+        if !lent.fit(self.bare.places, self.slots) {
             return Err(Refusal::ListLength);
         }
-        if slot >= self.slots {
-            return Err(Refusal::NoSuchSlot);
-        }
-        Ok(())
+        self.slots.get(slot).ok_or(Refusal::NoSuchSlot)
     }
 
     // A job then tries whether its slot is free, and then whether its places lie inside the book.
-    pub(crate) fn check_job<K: Kind>(
-        &self,
-        book: &[K::Held],
-        rows: &[K::Held],
-        givens: &[K::Given],
-        slot: usize,
-        first: usize,
-        count: usize,
-    ) -> Result<Range, Refusal>
-        ensures tried { Tried (job_refusal L.Lock (state self.now book.now rows.now givens.now) slot first count) result }
-        ensures passed { IfOk result (λ x. Free L.Lock (state self.now book.now rows.now givens.now) slot first count x) }
+    pub(crate) fn check_job(&self, slot: Slot, first: usize, count: usize) -> Result<Range, Refusal>
+        ensures tried { Tried (slot_refusal (is_free (row_of self.now.jobs.slots slot.index) (L.phases self.now.lock slot.index)) self.now.bare.places first count) result }
+        ensures idle { OnOk result (L.phases self.now.lock slot.index ≡ Idle) }
+        ensures range { IfOk result (λ x. (x.places ≡ self.now.bare.places) × (x.first ≡ first) × (x.count ≡ count)) }
     {
-        self.check_call::<K>(book, rows, givens, slot)?;
-        if self.jobs.at(slot).number != 0 {
+        if self.jobs.at(slot).is_some() {
             return Err(Refusal::SlotBusy);
         }
-        let Phase::Idle = self.lock.phase(slot) else {
-            return Err(Refusal::SlotBusy);
-        };
-        Range::within(self.places, first, count)
+        Range::within(self.bare.places, first, count)
     }
 
-    // Whether one more job may be accepted.
-    pub(crate) fn has_room(&self) -> bool
-        ensures { result ≡ nat_lt self.now.accepted 1000000 }
+    // Last it tries whether one more job may be accepted.
+    pub(crate) fn check_room(&self) -> Result<(), Refusal>
+        ensures tried { MatchResult result (λ _. room_refusal self.now.accepted ≡ None) (λ e. room_refusal self.now.accepted ≡ Some e) }
+        ensures room { OnOk result (self.now.accepted < 1000000) }
     {
-        self.accepted < JOBS
+        if self.accepted >= JOBS {
+            return Err(Refusal::JobsExhausted);
+        }
+        Ok(())
     }
 }
 
 pub(crate) fn all_accepted<K: Kind>(givens: &[K::Given]) -> bool
-    ensures { result ≡ all_accepted K.Kind.accepted givens.now }
+    ensures { result ≡ list_all K.Kind.accepted givens.now }
 {
-    for given in givens {
-        if !K::accepts(*given) {
-            return false;
-        }
-    }
-    true
+    givens.iter().all(|given| K::accepts(*given))
 }

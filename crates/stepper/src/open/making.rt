@@ -1,22 +1,27 @@
 // An open book at its start.
-ghost use Rattle.std.specs.Prelude.{◌≡◌, ◌≤◌, replicate};
-ghost use Rattle.stepper.specs.Jobs.{no_job};
+ghost use Rattle.std.specs.Prelude.{◌≡◌, replicate, None};
 
 use super::OpenBook;
-use crate::job::Jobs;
+use crate::bare::Ready;
+use lock::Lock;
+use slots::Table;
 
-impl<L> OpenBook<L> {
-    pub(crate) fn start(slots: usize, places: usize, lock: L) -> OpenBook<L>
-        requires few { slots ≤ 32 }
-        requires sized { (1 ≤ places) × (places ≤ 4096) }
-        ensures { (result.slots ≡ slots) × (result.places ≡ places) × (result.accepted ≡ 0) × (result.jobs.rows ≡ replicate 32 no_job) × (result.lock ≡ lock) }
+impl<L: Lock> OpenBook<L> {
+    // Cannot refuse.
+    pub(crate) fn start(ready: Ready) -> OpenBook<L>
+        ensures slots { result.slots ≡ ready.slots }
+        ensures bare { result.bare ≡ ready.bare }
+        ensures accepted { result.accepted ≡ 0 }
+        ensures jobs { result.jobs.slots ≡ replicate 32 None }
+        ensures lock { L.opens ready.slots.count result.lock }
     {
+        let Ready { slots, bare } = ready;
         OpenBook {
             slots,
-            places,
+            bare,
             accepted: 0,
-            jobs: Jobs::none(),
-            lock,
+            jobs: Table::filled(None),
+            lock: L::fresh(slots),
         }
     }
 }

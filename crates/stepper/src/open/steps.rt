@@ -1,18 +1,20 @@
 // One step of a slot: a memory access of its lock, or a piece of work of its job.
-ghost use Rattle.std.specs.Prelude.{◌≡◌, ◌<◌};
+ghost use Rattle.std.specs.Prelude.{◌≡◌, ◌<◌, Some, slice_set};
 ghost use Rattle.lock.specs.declared.words.Phase.TheVariants.{Holds};
-ghost use Rattle.stepper.specs.Checks.{Lent};
-ghost use Rattle.stepper.specs.Jobs.{row_of};
+ghost use Rattle.stepper.specs.Jobs.{row_of, Sound};
+ghost use Rattle.stepper.specs.Lists.{lengths_of, Fit};
 ghost use Rattle.stepper.specs.State.{state};
-ghost use Rattle.stepper.specs.Steps.{DidStep, Works, Passes, passed_jobs, is_last};
+ghost use Rattle.stepper.specs.Steps.{DidStep, HoldWorks, Passes, passed_jobs, is_last};
 
 use super::OpenBook;
-use super::pieces::{copy_place, join_place, put_place};
 use crate::job::Job;
+use crate::limits::EACH;
+use crate::lists::Lengths;
 use entry::Kind;
 use lock::{Class, Lock, Phase};
 use range::Range;
 use refusal::Refusal;
+use slots::Slot;
 
 impl<L: Lock> OpenBook<L> {
     // Answers the slot's phase and the label where it now stands.
@@ -25,17 +27,12 @@ impl<L: Lock> OpenBook<L> {
     ) -> Result<(Phase, L::Label), Refusal>
         ensures { DidStep L.Lock K.Kind (state self.old book.old rows.old givens.now) slot result (state self.new book.new rows.new givens.now) }
     {
-        self.check_call::<K>(book, rows, givens, slot)?;
-        match self.lock.phase(slot) {
-            Phase::Idle => Ok(self.stand(slot)),
-            Phase::Called | Phase::Waits | Phase::Leaves => Ok(self.lock.step(slot)),
-            Phase::Holds => {
-                let job = self.jobs.at(slot);
-                // Every row lies inside the book, so this never refuses.
-                let range = Range::within(self.places, job.first, job.count)?;
-                Ok(self.work::<K>(book, rows, givens, slot, job, range))
-            }
-        }
+        let slot = self.check_call(Lengths::of(book, rows, givens), slot)?;
+        Ok(match self.lock.phase(slot) {
+            Phase::Idle => self.lock.stand(slot),
+            Phase::Called | Phase::Waits | Phase::Leaves => self.lock.step(slot),
+            Phase::Holds => self.work::<K>(book, rows, givens, slot),
+        })
     }
 
     // One piece of work of a slot that holds.
@@ -44,73 +41,82 @@ impl<L: Lock> OpenBook<L> {
         book: &mut [K::Held],
         rows: &mut [K::Held],
         givens: &[K::Given],
-        slot: usize,
-        job: Job,
-        range: Range,
+        slot: Slot,
     ) -> (Phase, L::Label)
-        requires lent { Lent (state self.old book.old rows.old givens.now) slot }
-        requires holds { L.Lock.phases self.old.lock slot ≡ Holds }
-        requires row { job ≡ row_of self.old.jobs.rows slot }
-        requires places { range.places ≡ self.old.places }
-        requires first { range.first ≡ job.first }
-        requires count { range.count ≡ job.count }
-        ensures answer { result ≡ (L.Lock.phases self.new.lock slot, L.Lock.labels self.new.lock slot) }
-        ensures left { Works L.Lock K.Kind (state self.old book.old rows.old givens.now) slot job job.class job.joined (state self.new book.new rows.new givens.now) }
+        requires fit { Fit self.old.bare.places self.old.slots.count (lengths_of book.old rows.old givens.now) }
+        requires slot { slot.index < self.old.slots.count }
+        requires holds { L.phases self.old.lock slot.index ≡ Holds }
+        ensures answer { result ≡ (L.phases self.new.lock slot.index, L.labels self.new.lock slot.index) }
+        ensures left { HoldWorks L.Lock K.Kind (state self.old book.old rows.old givens.now) slot.index (row_of self.old.jobs.slots slot.index) (state self.new book.new rows.new givens.now) }
     {
+        let (job, range) = self.held_job(slot);
+        let place = range.first() + job.done;
+        let own = EACH * slot.index() + job.done;
         match (job.class, job.joined) {
             (Class::Reading, _) => {
-                copy_place::<K>(book, rows, slot, job, range);
+                rows[own] = book[place];
                 self.pass(slot, job)
             }
             (Class::Writing, false) => {
-                join_place::<K>(book, rows, givens, slot, job, range);
-                self.jobs.put(
-                    slot,
-                    Job {
-                        joined: true,
-                        ..job
-                    },
-                );
-                self.stand(slot)
+                rows[own] = K::join(book[place], givens[own]);
+                let joined = Job {
+                    joined: true,
+                    ..job
+                };
+                self.goes_on(slot, joined)
             }
             (Class::Writing, true) => {
-                put_place::<K>(book, rows, slot, job, range);
+                book[place] = rows[own];
                 self.pass(slot, job)
             }
         }
     }
 
+    // A slot that holds has a job, and each job lies inside the book.
+    fn held_job(&self, slot: Slot) -> (Job, Range)
+        requires { L.phases self.now.lock slot.index ≡ Holds }
+        ensures row { row_of self.now.jobs.slots slot.index ≡ Some result.0 }
+        ensures next { result.0.done < result.1.count }
+        ensures range { (result.1.places ≡ self.now.bare.places) × (result.1.first ≡ result.0.first) × (result.1.count ≡ result.0.count) }
+    {
+        let Some(job) = self.jobs.at(slot) else {
+            unreachable!()
+        };
+        let Ok(range) = Range::within(self.bare.places, job.first, job.count) else {
+            unreachable!()
+        };
+        (job, range)
+    }
+
     // The slot's place is done. After the last one the hold is finished.
-    fn pass(&mut self, slot: usize, job: Job) -> (Phase, L::Label)
-        requires slot { slot < 32 }
-        requires holds { L.Lock.phases self.old.lock slot ≡ Holds }
-        requires row { job ≡ row_of self.old.jobs.rows slot }
-        ensures answer { result ≡ (L.Lock.phases self.new.lock slot, L.Lock.labels self.new.lock slot) }
-        ensures slots { self.new.slots ≡ self.old.slots }
-        ensures places { self.new.places ≡ self.old.places }
-        ensures accepted { self.new.accepted ≡ self.old.accepted }
-        ensures jobs { self.new.jobs.rows ≡ passed_jobs self.old.jobs.rows slot }
-        ensures lock { Passes L.Lock (is_last job) self.old.lock slot self.new.lock }
+    fn pass(&mut self, slot: Slot, job: Job) -> (Phase, L::Label)
+        requires holds { L.phases self.old.lock slot.index ≡ Holds }
+        requires row { row_of self.old.jobs.slots slot.index ≡ Some job }
+        ensures answer { result ≡ (L.phases self.new.lock slot.index, L.labels self.new.lock slot.index) }
+        ensures kept { (self.new.slots ≡ self.old.slots) × (self.new.bare ≡ self.old.bare) × (self.new.accepted ≡ self.old.accepted) }
+        ensures jobs { self.new.jobs.slots ≡ passed_jobs self.old.jobs.slots slot.index job }
+        ensures lock { Passes L.Lock (is_last job) self.old.lock slot.index self.new.lock }
     {
         if job.done + 1 == job.count {
             return self.lock.finish(slot);
         }
-        self.jobs.put(
-            slot,
-            Job {
-                done: job.done + 1,
-                joined: false,
-                ..job
-            },
-        );
-        self.stand(slot)
+        let next = Job {
+            done: job.done + 1,
+            joined: false,
+            ..job
+        };
+        self.goes_on(slot, next)
     }
 
-    // Where the slot stands with the lock.
-    fn stand(&self, slot: usize) -> (Phase, L::Label)
-        requires { slot < 32 }
-        ensures { result ≡ (L.Lock.phases self.now.lock slot, L.Lock.labels self.now.lock slot) }
+    // The slot still holds, with its job as it is now.
+    fn goes_on(&mut self, slot: Slot, job: Job) -> (Phase, L::Label)
+        requires { Sound self.old.bare.places job }
+        ensures answer { result ≡ (L.phases self.new.lock slot.index, L.labels self.new.lock slot.index) }
+        ensures kept { (self.new.slots ≡ self.old.slots) × (self.new.bare ≡ self.old.bare) × (self.new.accepted ≡ self.old.accepted) }
+        ensures jobs { self.new.jobs.slots ≡ slice_set self.old.jobs.slots slot.index (Some job) }
+        ensures lock { self.new.lock ≡ self.old.lock }
     {
-        (self.lock.phase(slot), self.lock.label(slot))
+        self.jobs.put(slot, Some(job));
+        self.lock.stand(slot)
     }
 }

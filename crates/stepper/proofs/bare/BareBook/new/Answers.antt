@@ -1,19 +1,14 @@
-use Rattle.std.proofs.Common.{◌≡◌, ◌<◌, ◌≤◌, [], ◌∷◌, ◌++◌, length, replicate, sym, refl, ap, ◌∙◌, arith, rules}
-use Rattle.std.proofs.lemmas.List.{take_more_set, take_all, replicate_more}
+use Rattle.std.proofs.Common.{◌≡◌, List, [], ◌∷◌, length, replicate, refl, ap, sym, subst, ◌∙◌, rules, of_calls, arith}
+use Rattle.std.specs.List.{FoldsTo}
 use Rattle.stepper.proofs.bare.BareBook.new.Goals as goal
 
-pub loop-place-preserved : goal.loop-place-preserved
-loop-place-preserved g c =
-    let i = c.loop-place.place-index in
-    let empty = g.K.Kind.empty in
-    let lt : i < length c.loop-place.book = omega arith in
-    take_more_set _ i _ lt
-    ∙ ap (λ xs. xs ++ (c.empty_entry.result ∷ [])) c.loop-place.invariant
-    ∙ ap (λ y. replicate i empty ++ (y ∷ [])) c.empty_entry.ensures
-    ∙ replicate_more i empty
+-- what calls that all gave v made
+all_gave : {P A : Type 0} (step : P → A → P → Type 0) (v : A) → ((p : P) (x : A) (q : P) → step p x q → x ≡ v) → (p : P) (xs : List A) (q : P) → FoldsTo step p xs q → xs ≡ replicate (length xs) v
+all_gave step v gives p [] q made = refl
+all_gave step v gives p (x ∷ xs) q made =
+    ap (λ y. y ∷ xs) (gives p x made.0 made.1) ∙ ap (λ ys. v ∷ ys) (all_gave step v gives made.0 xs q made.2)
 
 pub returns : goal.returns
 returns g c =
-    let whole : length c.loop-place.book ≤ c.loop-place.place-index = omega arith in
-    let same : c.loop-place.place-index ≡ length c.args.book.now = omega arith in
-    (search rules, refl, sym (take_all _ _ whole) ∙ c.loop-place.invariant ∙ ap (λ n. replicate n g.K.Kind.empty) same)
+    let filled = all_gave _ g.K.Kind.empty (λ p x q called. search (rules, of_calls)) _ c.fill_with.new.self _ c.fill_with.ensures.ran.1 in
+    (search rules, refl, filled ∙ ap (λ n. replicate n g.K.Kind.empty) c.fill_with.ensures.len)

@@ -1,10 +1,12 @@
-use Rattle.std.proofs.Common.{length, sym, ap, subst}
-use Rattle.stepper.specs.Jobs.{AllSound}
-use Rattle.stepper.proofs.Rows.{none_sound}
+use Rattle.std.proofs.Common.{◌≡◌, ℕ, zero, suc, replicate, Some, None, refl, ap, ◌∙◌}
+use Rattle.stepper.specs.Jobs.{row_of}
 use Rattle.stepper.proofs.open.OpenBook.start.Goals as goal
 
-pub invariant_of-result : goal.invariant_of-result
-invariant_of-result g c =
-    let e = c.none.ensures in
-    let sized = c.requires.sized in
-    record { few = c.requires.few; full = ap length e; sound = subst (AllSound c.args.places) (sym e) (none_sound c.args.places sized.0 sized.1) }
+-- at the start no slot has a job
+no_rows : (n i : ℕ) → row_of (replicate n None) i ≡ None
+no_rows zero i = refl
+no_rows (suc n) zero = refl
+no_rows (suc n) (suc i) = no_rows n i
+
+pub invariant_of-result-clause-sound : goal.invariant_of-result-clause-sound
+invariant_of-result-clause-sound g c i x e = let none = ap (λ xs. row_of xs i) c.filled.ensures ∙ no_rows 32 i in absurd cc
