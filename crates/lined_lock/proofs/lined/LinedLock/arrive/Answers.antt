@@ -8,10 +8,6 @@ use Rattle.lined_lock.proofs.lined.LinedLock.arrive.Goals as goal
 pub invariant_of-self : goal.invariant_of-self
 invariant_of-self g c =
     let s = c.args.self.now in
-    let i = c.args.slot.index in
-    let l = in_line s.line in
-    let k = g.met.P.Procedures.keeps_stepped s.words l i s.keeps c.args.slot.within (called_moves _ c.requires) in
+    let k = g.met.P.Procedures.keeps_stepped s.words (in_line s.line) c.args.slot.index s.keeps c.args.slot.within (called_moves _ c.requires) in
     let n = g.met.P.Procedures.keeps_few _ _ k in
-    let p = length_push l i in
-    let r = pushed_room i l in
-    search rules
+    search (rules, length_push, pushed_room)

@@ -6,7 +6,6 @@ use Rattle.lined_lock.proofs.lined.LinedLock.go_on.Goals as goal
 pub invariant_of-self : goal.invariant_of-self
 invariant_of-self g c =
     let s = c.args.self.now in
-    let i = c.args.slot.index in
-    let k = g.met.P.Procedures.keeps_stepped s.words (in_line s.line) i s.keeps c.args.slot.within (on_moves _ c.requires) in
-    let e = on_line _ i (in_line s.line) c.requires in
+    let k = g.met.P.Procedures.keeps_stepped s.words (in_line s.line) c.args.slot.index s.keeps c.args.slot.within (on_moves _ c.requires) in
+    let e = on_line _ c.args.slot.index (in_line s.line) c.requires in
     search rules
