@@ -1,5 +1,4 @@
 pub mod Lines
 pub mod Lock
-pub mod Standings
 pub mod Tables
 pub mod Totals

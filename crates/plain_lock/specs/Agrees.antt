@@ -1,6 +1,6 @@
 -- Each move keeps the word in agreement with where the slots stand.
 use Rattle.std.specs.Prelude.{◌≡◌, ℕ, ◌+◌, ◌*◌, ◌%◌, ◌<◌, ◌≤◌, Bool, true, false, cond, ◌⊎◌, length, count_by, ◌==◌, refl}
-use Rattle.std.proofs.Common.{sym, ap, inl, inr, arith, length-set}
+use Rattle.std.proofs.Common.{sym, ap, subst, inl, inr, arith, length-set}
 use Rattle.std.proofs.lemmas.List.{get_or_past}
 use Rattle.std.proofs.lemmas.List.Sums.{sum_by-set, get_or-le-sum_by, count_by-le-length}
 use Rattle.std.proofs.lemmas.Bool.{eqb-true, cases_lt}
@@ -93,3 +93,7 @@ call_agrees s i c h = let a = stands s.words i in stays s i a _ h refl (called_r
 
 pub finish_agrees : (s : PlainLock) (i : ℕ) → i < 32 → Agrees (finished s.words i)
 finish_agrees s i h = let a = stands s.words i in stays s i a _ h refl (finished_reads a) (finished_writes a)
+
+-- as the ghost fields of a lock with the words v
+pub ghosts : {w v : Words} → Agrees w → v ≡ w → record { full : full-type v; counted : counted-type v full; alone : alone-type v full counted }
+ghosts {w} {v} h e = let k = subst Agrees (sym e) h in record { full = k.full; counted = k.counted; alone = k.alone }

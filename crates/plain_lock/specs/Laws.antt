@@ -6,8 +6,9 @@ use mathlib.Core.HLevel.{is_prop→PathP}
 use Rattle.std.proofs.Math.Bridge.{le_prop}
 use Rattle.std.proofs.Math.Nat.{ℕ_set}
 use Rattle.std.proofs.lemmas.List.{set-get_or}
-use Rattle.std.proofs.lemmas.Bool.{eqb-true, cases_eq}
-use Rattle.lock.specs.Meaning.{Meaning, meant, MayHold, Reaches, Stepped, Finished, steps_from, finishes_from}
+use Rattle.std.proofs.lemmas.Bool.{eqb-true}
+use Rattle.lock.specs.Meaning.{Meaning, Moved, meant, MayHold, Reaches, Stepped, Finished, steps_from, finishes_from}
+use Rattle.lock.specs.Standings as means
 use Rattle.lock.specs.declared.words.Phase.{Phase}
 use Rattle.lock.specs.declared.words.Phase.TheVariants.{Idle, Called, Waits, Holds, Leaves}
 use Rattle.lock.specs.declared.words.Class.{Class}
@@ -46,13 +47,13 @@ rests s t i a e m =
     same s t (m ∙ ap (λ xs. record { word = s.words.word; table = record { slots = xs } }) k)
 
 -- where the slots stand after a move of slot i
-here : (s t : PlainLock) (i : ℕ) (a : Standing) (w : ℕ) → i < 32 → t.words ≡ moved s.words i a w → stands t.words i ≡ a
-here s t i a w h e =
+moves : (s t : PlainLock) (i : ℕ) (a : Standing) (w : ℕ) → i < 32 → t.words ≡ moved s.words i a w → Moved (stands s.words) i a (stands t.words)
+moves s t i a w h e =
     let l : i < length s.words.table.slots = omega arith in
-    ap (λ x. stands x i) e ∙ get_or-set_same s.words.table.slots i a I l
-
-there : (s t : PlainLock) (i : ℕ) (a : Standing) (w : ℕ) → t.words ≡ moved s.words i a w → (j : ℕ) → (j ≢ i) → stands t.words j ≡ stands s.words j
-there s t i a w e j ne = ap (λ x. stands x j) e ∙ get_or-set_other s.words.table.slots i j a I ne
+    record {
+      here = ap (λ x. stands x i) e ∙ get_or-set_same s.words.table.slots i a I l;
+      others = λ j n. ap (λ x. stands x j) e ∙ get_or-set_other s.words.table.slots i j a I n;
+    }
 
 holds_counted : (a : Standing) → phase_of a ≡ Holds → (reads a ≡ true) ⊎ (writes a ≡ true)
 holds_counted a e = grind arith
@@ -111,21 +112,10 @@ did_step Waits m = m
 did_step Holds m = absurd m
 did_step Leaves m = m
 
--- every slot, by whether it is the one that moved
-by_slot : (P : ℕ → Type 0) (i : ℕ) → P i → ((j : ℕ) → (j ≢ i) → P j) → (j : ℕ) → P j
-by_slot P i p o j = elim (cases_eq j i) [ inl e ↦ subst P (sym e) p | inr n ↦ o j n ]
-
 pub step_means : (s : PlainLock) (i : ℕ) (t : PlainLock) → i < 32 → Steps s i t → Stepped (mean s) i (mean t)
 step_means s i t h m =
     let e = did_step (phases s i) m in
-    let at_i = here s t i _ _ h e in
-    record {
-      reaches = subst (λ a. Reaches (mean s) i (phases s i) (phase_of a)) (sym at_i) (reaches (t.words ≡ stepped s.words i) s i _ refl m);
-      others = record { here = refl; others = λ j ne. ap phase_of (there s t i _ _ e j ne) };
-      class = by_slot (λ j. (phases t j ≢ Idle) → classes t j ≡ classes s j) i
-          (λ n. ap class_of at_i ∙ step_class _ _ (λ z. n (ap phase_of at_i ∙ z)))
-          (λ j ne n. ap class_of (there s t i _ _ e j ne));
-    }
+    means.step_means phase_of class_of (stands s.words) (stands t.words) (bars s) (bars t) i _ (reaches (t.words ≡ stepped s.words i) s i _ refl m) (moves s t i _ _ h e) (step_class _ _)
 
 did_finish : {X : Type 0} (p : Phase) → finishes_from p X ⊥ → (p ≡ Holds) × X
 did_finish Idle m = absurd m
@@ -140,14 +130,7 @@ finish_phase a e = grind arith
 pub finish_means : (s : PlainLock) (i : ℕ) (t : PlainLock) → i < 32 → Finishes s i t → Finished (mean s) i (mean t)
 finish_means s i t h m =
     let d = did_finish (phases s i) m in
-    let at_i = here s t i _ _ h d.1 in
-    record {
-      holds = d.0;
-      phase = record { here = ap phase_of at_i ∙ finish_phase _ d.0; others = λ j ne. ap phase_of (there s t i _ _ d.1 j ne) };
-      class = by_slot (λ j. (phases t j ≢ Idle) → classes t j ≡ classes s j) i
-          (λ n. ap class_of at_i ∙ finish_class _)
-          (λ j ne n. ap class_of (there s t i _ _ d.1 j ne));
-    }
+    means.finish_means phase_of class_of (stands s.words) (stands t.words) (bars s) (bars t) i _ d.0 (moves s t i _ _ h d.1) (finish_phase _ d.0) (finish_class _)
 
 -- a step moves a slot that was called, waits or leaves, and leaves the lock of any other as it is
 abbrev StepsAt : PlainLock → ℕ → Standing → PlainLock → Type 0

@@ -5,7 +5,7 @@ use Rattle.std.proofs.Common.{sym, ap, ◌∙◌, inl, inr, arith}
 use mathlib.Core.HLevel.{⊥_prop}
 use Rattle.std.proofs.Math.Logic.{∥∥₁_elim}
 use Rattle.std.proofs.lemmas.Bool.{cases_Bool, cases_eq, both_ways, eqb-true}
-use Rattle.lined_lock.specs.Standings.{call_means, finish_means, step_means}
+use Rattle.lock.specs.Standings.{call_means, finish_means, step_means}
 use Rattle.lock.specs.Line.{arrives}
 use Rattle.lock.specs.Meaning.{Meaning, Moved, meant, CalledIn, MayHold, Reaches, Stepped, Finished, steps_from}
 use Rattle.lock.specs.declared.words.Class.{Class}

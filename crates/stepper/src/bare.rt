@@ -3,7 +3,7 @@ ghost use Rattle.std.specs.Prelude.{◌≤◌};
 
 use slots::Slots;
 
-pub mod opening;
+mod opening;
 
 // It moves and is never copied, so that no place is preset after opening.
 #[derive(Drop)]

@@ -7,15 +7,15 @@ use crate::job::Job;
 use lock::Lock;
 use slots::{Slots, Table};
 
-pub mod asks;
-pub mod checks;
-pub mod making;
-pub mod steps;
+mod asks;
+mod checks;
+mod making;
+mod steps;
 
 #[derive(Drop)]
 pub struct OpenBook<L: Lock> {
     slots: Slots,
-    // It says how long the book is.
+    // The bare book that was opened. It says how many places there are.
     bare: BareBook,
     accepted: u32,
     jobs: Table<Option<Job>>,

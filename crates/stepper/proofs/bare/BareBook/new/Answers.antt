@@ -1,4 +1,4 @@
-use Rattle.std.proofs.Common.{◌≡◌, List, [], ◌∷◌, length, replicate, refl, ap, sym, subst, ◌∙◌, rules, of_calls, arith}
+use Rattle.std.proofs.Common.{◌≡◌, List, [], ◌∷◌, length, replicate, refl, ap, ◌∙◌, rules, of_calls}
 use Rattle.std.specs.List.{FoldsTo}
 use Rattle.stepper.proofs.bare.BareBook.new.Goals as goal
 
@@ -6,7 +6,9 @@ use Rattle.stepper.proofs.bare.BareBook.new.Goals as goal
 all_gave : {P A : Type 0} (step : P → A → P → Type 0) (v : A) → ((p : P) (x : A) (q : P) → step p x q → x ≡ v) → (p : P) (xs : List A) (q : P) → FoldsTo step p xs q → xs ≡ replicate (length xs) v
 all_gave step v gives p [] q made = refl
 all_gave step v gives p (x ∷ xs) q made =
-    ap (λ y. y ∷ xs) (gives p x made.0 made.1) ∙ ap (λ ys. v ∷ ys) (all_gave step v gives made.0 xs q made.2)
+    let first = gives p x made.0 made.1 in
+    let rest = all_gave step v gives made.0 xs q made.2 in
+    cc
 
 pub returns : goal.returns
 returns g c =
