@@ -11,7 +11,5 @@ pub trait FairProcedures<W>: Procedures<W> {
 }
 
 impl<P: FairProcedures<W>, W: Copy> FairLock for LinedLock<P, W> {
-    fn makes_progress() -> u8 {
-        0
-    }
+    fn makes_progress() {}
 }

@@ -4,6 +4,6 @@ ghost use Rattle.lock.specs.Progress.{Progress, longest_hold, rounds_a_slot};
 use crate::ordered::OrderedLock;
 
 pub trait FairLock: OrderedLock {
-    fn makes_progress() -> u8
+    fn makes_progress()
         ensures { Progress Self.Lock longest_hold rounds_a_slot };
 }

@@ -8,7 +8,7 @@ pub trait OrderedLock: Lock {
     ghost line: { Self → List ℕ };
 
     // The rules of the line, over the moves and the meaning of the lock.
-    fn keeps_line() -> u8
+    fn keeps_line()
         ensures fresh { EmptyWhenFresh Self.Lock line }
         ensures call { SameAtCalls Self.Lock line }
         ensures step { ArrivesInTurn Self.Lock line }

@@ -8,7 +8,5 @@ use lock::OrderedLock;
 impl<P: Procedures<W>, W: Copy> OrderedLock for LinedLock<P, W> {
     ghost line = { line_of };
 
-    fn keeps_line() -> u8 {
-        0
-    }
+    fn keeps_line() {}
 }
