@@ -1,5 +1,5 @@
 -- The part at the front of some bytes is determined.
-use Rattle.std.proofs.Common.{◌≡◌, ℕ, ◌+◌, ◌-◌, ◌^◌, ◌<◌, ◌≤◌, Bool, true, false, cond, ◌⊎◌, List, [], ◌∷◌, ◌++◌, length, get_or, take, drop, decimal, sym, refl, ap, ◌∙◌, subst, inl, inr, ⊎_elim, add-zero, arith, Bor, ◌≢◌, Option, Some, None, MatchOption, not}
+use Rattle.std.proofs.Common.{◌≡◌, ℕ, ◌+◌, ◌-◌, ◌^◌, ◌<◌, ◌≤◌, Bool, true, false, cond, List, [], ◌∷◌, ◌++◌, length, get_or, take, drop, decimal, sym, refl, ap, ◌∙◌, subst, add-zero, arith, Bor, ◌≢◌, Option, Some, None, MatchOption, not}
 use Rattle.std.specs.Bool.{then_some}
 use Rattle.std.proofs.lemmas.List.{take_rest}
 use Rattle.std.proofs.lemmas.Fmt.{decimal_nonempty, digits_decimal, decimal_injective}
@@ -45,44 +45,21 @@ tail_same : (b c : ℕ) (bs cs : List ℕ) → b ∷ bs ≡ c ∷ cs → bs ≡ 
 tail_same b c bs cs e = cc
 
 -- parts whose first bytes are apart are not written alike
-clash : (p q : Part) (r r' : List ℕ) → Good p → Good q → written p ++ r ≡ written q ++ r' → (high p < low q) ⊎ (high q < low p) → ⊥
+clash : (p q : Part) (r r' : List ℕ) → Good p → Good q → written p ++ r ≡ written q ++ r' → (low p ≤ high q → low q ≤ high p → ⊥) → ⊥
 clash p q r r' g h e apart =
     let x = first_in p r g in
     let y = first_in q r' h in
     let same = head_same x.0 y.0 x.1.0 y.1.0 (sym x.1.1 ∙ e ∙ y.1.1) in
-    let xlow : low p ≤ x.0 = x.2.0 in
-    let xhigh : x.0 ≤ high p = x.2.1 in
-    let ylow : low q ≤ y.0 = y.2.0 in
-    let yhigh : y.0 ≤ high q = y.2.1 in
-    ⊎_elim (λ l. omega arith) (λ l. omega arith) apart
+    apart (omega (arith, x.2.0, y.2.1)) (omega (arith, x.2.1, y.2.0))
 
 -- a part and what follows it are determined by their bytes
 same_part : (p q : Part) (r r' : List ℕ) → Good p → Good q → Ends p r → Ends q r' → written p ++ r ≡ written q ++ r' → (p ≡ q) × (r ≡ r')
 same_part opening opening r r' g h s t e = (refl, tail_same _ _ r r' e)
-same_part opening closing r r' g h s t e = absurd (clash opening closing r r' g h e (inl (omega arith)))
-same_part opening (word v) r r' g h s t e = absurd (clash opening (word v) r r' g h e (inl (omega arith)))
-same_part opening (numeral m) r r' g h s t e = absurd (clash opening (numeral m) r r' g h e (inl (omega arith)))
-same_part opening ending r r' g h s t e = absurd (clash opening ending r r' g h e (inr (omega arith)))
-same_part closing opening r r' g h s t e = absurd (clash closing opening r r' g h e (inr (omega arith)))
 same_part closing closing r r' g h s t e = (refl, tail_same _ _ r r' e)
-same_part closing (word v) r r' g h s t e = absurd (clash closing (word v) r r' g h e (inl (omega arith)))
-same_part closing (numeral m) r r' g h s t e = absurd (clash closing (numeral m) r r' g h e (inl (omega arith)))
-same_part closing ending r r' g h s t e = absurd (clash closing ending r r' g h e (inr (omega arith)))
-same_part (word w) opening r r' g h s t e = absurd (clash (word w) opening r r' g h e (inr (omega arith)))
-same_part (word w) closing r r' g h s t e = absurd (clash (word w) closing r r' g h e (inr (omega arith)))
 same_part (word w) (word v) r r' g h s t e = let u = run_unique 97 122 w v r r' g.1 h.1 s t e in (ap word u.0, u.1)
-same_part (word w) (numeral m) r r' g h s t e = absurd (clash (word w) (numeral m) r r' g h e (inr (omega arith)))
-same_part (word w) ending r r' g h s t e = absurd (clash (word w) ending r r' g h e (inr (omega arith)))
-same_part (numeral n) opening r r' g h s t e = absurd (clash (numeral n) opening r r' g h e (inr (omega arith)))
-same_part (numeral n) closing r r' g h s t e = absurd (clash (numeral n) closing r r' g h e (inr (omega arith)))
-same_part (numeral n) (word v) r r' g h s t e = absurd (clash (numeral n) (word v) r r' g h e (inl (omega arith)))
 same_part (numeral n) (numeral m) r r' g h s t e = let u = run_unique 48 57 (decimal n) (decimal m) r r' (digits_decimal own n (omega arith)) (digits_decimal own m (omega arith)) s t e in (ap numeral (decimal_injective n m (omega arith) (omega arith) u.0), u.1)
-same_part (numeral n) ending r r' g h s t e = absurd (clash (numeral n) ending r r' g h e (inr (omega arith)))
-same_part ending opening r r' g h s t e = absurd (clash ending opening r r' g h e (inl (omega arith)))
-same_part ending closing r r' g h s t e = absurd (clash ending closing r r' g h e (inl (omega arith)))
-same_part ending (word v) r r' g h s t e = absurd (clash ending (word v) r r' g h e (inl (omega arith)))
-same_part ending (numeral m) r r' g h s t e = absurd (clash ending (numeral m) r r' g h e (inl (omega arith)))
 same_part ending ending r r' g h s t e = (refl, tail_same _ _ r r' e)
+same_part p q r r' g h s t e = absurd (clash p q r r' g h e (λ a b. omega (arith, a, b)))
 
 -- no part begins with this byte
 pub record Foreign (b : ℕ) : Type 0 where
@@ -124,19 +101,15 @@ due p b e = ap (λ (x : Bool). cond x (32 ∷ []) []) e
 
 -- at a blank, the next part is one that a blank sets off
 after_blank : (s s₁ : List ℕ) → s ≡ 32 ∷ s₁ → (p : Part) (rest : List ℕ) → s ≡ gap false p ++ (written p ++ rest) → (is_spaced p ≡ true) × (s₁ ≡ written p ++ rest)
-after_blank s s₁ is opening rest e = (refl, tail_same 32 32 _ _ (sym is ∙ e))
 after_blank s s₁ is closing rest e = absurd (let z = head_same 32 41 _ _ (sym is ∙ e) in omega arith)
-after_blank s s₁ is (word w) rest e = (refl, tail_same 32 32 _ _ (sym is ∙ e))
-after_blank s s₁ is (numeral n) rest e = (refl, tail_same 32 32 _ _ (sym is ∙ e))
 after_blank s s₁ is ending rest e = absurd (let z = head_same 32 10 _ _ (sym is ∙ e) in omega arith)
+after_blank s s₁ is p rest e = (refl, tail_same 32 32 _ _ (sym is ∙ e))
 
 -- at any other byte, it is one that none sets off
 with_no_blank : (s : List ℕ) → (get_or s 0 0 ≡ 32 → ⊥) → (p : Part) (rest : List ℕ) → s ≡ gap false p ++ (written p ++ rest) → (is_spaced p ≡ false) × (s ≡ written p ++ rest)
-with_no_blank s other opening rest e = absurd (other (ap (λ (xs : List ℕ). get_or xs 0 0) e))
 with_no_blank s other closing rest e = (refl, e)
-with_no_blank s other (word w) rest e = absurd (other (ap (λ (xs : List ℕ). get_or xs 0 0) e))
-with_no_blank s other (numeral n) rest e = absurd (other (ap (λ (xs : List ℕ). get_or xs 0 0) e))
 with_no_blank s other ending rest e = (refl, e)
+with_no_blank s other p rest e = absurd (other (ap (λ (xs : List ℕ). get_or xs 0 0) e))
 
 -- what is kept of r's part: all of it where the test is true of it
 abbrev pub Keeps : (Part → Bool) → Option (Token × Bor (List ℕ)) → Option (Token × Bor (List ℕ)) → Type 0
@@ -205,8 +178,6 @@ onward_stops lo hi l (numeral n ∷ ps) = λ i. omega (arith, i.0)
 onward_stops lo hi l (ending ∷ ps) = λ i. omega (arith, i.0)
 
 pub onward_ends : (p : Part) (ps : List Part) → Ends p (onward (is_opening p) ps)
-onward_ends opening ps = tt
-onward_ends closing ps = tt
 onward_ends (word w) ps = onward_stops 97 122 (omega arith) ps
 onward_ends (numeral n) ps = onward_stops 48 57 (omega arith) ps
-onward_ends ending ps = tt
+onward_ends p ps = tt

@@ -6,6 +6,7 @@ ghost use Rattle.sheet_text.specs.Steps.{Left, Next, NotNext, Past, marked};
 use super::token::{Mark, Token};
 
 // A place in a line: the bytes from `at` on are left, and where it is tight no blank is due before the next part.
+// The whole line and not what is left of it, since a token says at which offset of the line it begins.
 #[derive(Clone, Copy)]
 pub struct Cursor<'a> {
     pub line: &'a [u8],

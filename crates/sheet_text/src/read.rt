@@ -55,7 +55,7 @@ fn open_args(from: Cursor) -> Option<Form>
     })
 }
 
-// What follows the word of any form.
+// What follows the word of any form. Its first letter chooses the form.
 fn args_of(w: &[u8], from: Cursor) -> Option<Form>
     requires { 0 < length w.now }
     ensures { ArgsOf w.now from.entry result }

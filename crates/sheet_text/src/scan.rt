@@ -15,7 +15,7 @@ fn run(s: &[u8], low: u8, high: u8) -> (&[u8], &[u8])
     ensures all { AllByRecursion (IsInRange low high) result.0.now }
     ensures stops { Stops low high result.1.now }
 {
-    let len = s.iter().take_while(|b| low <= **b && **b <= high).count();
+    let len = s.iter().take_while(|b| (low..=high).contains(*b)).count();
     s.split_at(len)
 }
 

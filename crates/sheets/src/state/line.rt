@@ -92,7 +92,7 @@ impl Sheet {
     }
 }
 
-// What an accepted form is answered; no run has a say in it.
+// What an accepted form is answered; no run has a say in it. No `From`, since both types are of crates below.
 fn answer_to(form: Form) -> Answer
     ensures { (s : Sheet) → result ≡ answer s (Ok form) }
 {
