@@ -1,6 +1,7 @@
 // One step of a slot: a memory access of its lock, or a piece of work of its job.
 ghost use Rattle.std.specs.Prelude.{◌≡◌, ◌<◌, Some, slice_set};
 ghost use Rattle.lock.specs.declared.words.Phase.TheVariants.{Holds};
+ghost use Rattle.range.specs.Makings.{Spans};
 ghost use Rattle.stepper.specs.Jobs.{row_of, Sound};
 ghost use Rattle.stepper.specs.Lists.{lengths_of, Fit};
 ghost use Rattle.stepper.specs.State.{state};
@@ -77,7 +78,7 @@ impl<L: Lock> OpenBook<L> {
         requires { L.phases self.now.lock slot.index ≡ Holds }
         ensures row { row_of self.now.jobs.slots slot.index ≡ Some result.0 }
         ensures next { result.0.done < result.1.count }
-        ensures range { (result.1.places ≡ self.now.bare.places) × (result.1.first ≡ result.0.first) × (result.1.count ≡ result.0.count) }
+        ensures range { Spans self.now.bare.places result.0.first result.0.count result.1 }
     {
         let Some(job) = self.jobs.at(slot) else {
             unreachable!()
