@@ -20,6 +20,7 @@ pub struct OpenBook<L: Lock> {
     accepted: u32,
     jobs: Table<Option<Job>>,
     lock: L,
+    // A proof knows the length of the table's array by this alone.
     ghost full: { length jobs.slots ≡ 32 },
     ghost sound: { AllSound bare.places jobs.slots },
     ghost taken: { AllTaken (L.phases lock) jobs.slots },

@@ -2,6 +2,7 @@
 ghost use Rattle.std.specs.Prelude.{◌≡◌, ◌<◌, Some, None, IfOk, OnOk, MatchResult};
 ghost use Rattle.std.specs.List.{list_all};
 ghost use Rattle.lock.specs.declared.words.Phase.TheVariants.{Idle};
+ghost use Rattle.range.specs.Makings.{Spans};
 ghost use Rattle.stepper.specs.Checks.{Tried};
 ghost use Rattle.stepper.specs.Jobs.{row_of};
 ghost use Rattle.stepper.specs.Lists.{Fit};
@@ -33,7 +34,7 @@ impl<L: Lock> OpenBook<L> {
     pub(crate) fn check_job(&self, slot: Slot, first: usize, count: usize) -> Result<Range, Refusal>
         ensures tried { Tried (slot_refusal (is_free (row_of self.now.jobs.slots slot.index) (L.phases self.now.lock slot.index)) self.now.bare.places first count) result }
         ensures idle { OnOk result (L.phases self.now.lock slot.index ≡ Idle) }
-        ensures range { IfOk result (λ x. (x.places ≡ self.now.bare.places) × (x.first ≡ first) × (x.count ≡ count)) }
+        ensures range { IfOk result (Spans self.now.bare.places first count) }
     {
         if self.jobs.at(slot).is_some() {
             return Err(Refusal::SlotBusy);

@@ -1,6 +1,7 @@
 // One step of a slot: a memory access of its lock, or a piece of work of its job.
-ghost use Rattle.std.specs.Prelude.{◌≡◌, ◌<◌, Some, slice_set};
+ghost use Rattle.std.specs.Prelude.{◌≡◌, ◌≢◌, ◌<◌, Some, None, slice_set};
 ghost use Rattle.lock.specs.declared.words.Phase.TheVariants.{Holds};
+ghost use Rattle.range.specs.Makings.{Spans};
 ghost use Rattle.stepper.specs.Jobs.{row_of, Sound};
 ghost use Rattle.stepper.specs.Lists.{lengths_of, Fit};
 ghost use Rattle.stepper.specs.State.{state};
@@ -49,7 +50,8 @@ impl<L: Lock> OpenBook<L> {
         ensures answer { result ≡ (L.phases self.new.lock slot.index, L.labels self.new.lock slot.index) }
         ensures left { HoldWorks L.Lock K.Kind (state self.old book.old rows.old givens.now) slot.index (row_of self.old.jobs.slots slot.index) (state self.new book.new rows.new givens.now) }
     {
-        let (job, range) = self.held_job(slot);
+        // A slot that holds has a job.
+        let (job, range) = self.job_of(slot);
         let place = range.first() + job.done;
         let own = EACH * slot.index() + job.done;
         match (job.class, job.joined) {
@@ -72,12 +74,12 @@ impl<L: Lock> OpenBook<L> {
         }
     }
 
-    // A slot that holds has a job, and each job lies inside the book.
-    fn held_job(&self, slot: Slot) -> (Job, Range)
-        requires { L.phases self.now.lock slot.index ≡ Holds }
+    // The slot's job, and its places, which lie inside the book as those of each job do.
+    fn job_of(&self, slot: Slot) -> (Job, Range)
+        requires { row_of self.now.jobs.slots slot.index ≢ None }
         ensures row { row_of self.now.jobs.slots slot.index ≡ Some result.0 }
         ensures next { result.0.done < result.1.count }
-        ensures range { (result.1.places ≡ self.now.bare.places) × (result.1.first ≡ result.0.first) × (result.1.count ≡ result.0.count) }
+        ensures range { Spans self.now.bare.places result.0.first result.0.count result.1 }
     {
         let Some(job) = self.jobs.at(slot) else {
             unreachable!()
