@@ -1,4 +1,5 @@
-// The slots that stand in line are the first `len` of the table.
+// The slots that stand in line are the first `len` of the table. A table with its length beside and no vector, since a line
+// is copied with its lock, which is written whole, and no vector is `Copy`.
 ghost use Rattle.std.specs.Prelude.{◌≡◌, ◌<◌, [], ◌∷◌, ◌++◌, length, nat_lt};
 ghost use Rattle.line_table.specs.Lines.{in_line, pushed};
 ghost use Rattle.lock.specs.Line.{without};
@@ -28,7 +29,8 @@ impl Line {
         }
     }
 
-    // A slot quits the line, and those behind it move up.
+    // A slot quits the line, and those behind it move up. The loop counts: it writes the table that it reads, and no method
+    // keeps what passes a test in an array.
     pub fn remove(&mut self, slot: usize)
         ensures { in_line self.new ≡ without slot (in_line self.old) }
     {

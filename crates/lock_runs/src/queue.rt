@@ -11,7 +11,7 @@ use queue_words::record::Record;
 use slots::Slot;
 use std::alloc::{AllocError, Global};
 
-// Slots are below 32.
+// None is 0. Slots are below 32. A formula of the checksum, and no conversion of a type of ours.
 fn slot_number(slot: Option<usize>) -> u32
     ensures { result ≡ slot_number slot }
 {

@@ -33,6 +33,7 @@ fn read_index(digits: &[u8]) -> Option<usize>
     }
 }
 
+// No `TryFrom`: its error would say no more than `None`.
 fn read_act(letter: u8) -> Option<Act>
     ensures { Lettered letter result }
 {

@@ -27,7 +27,8 @@ fn answer(rt: &HostRuntime) -> anyhow::Result<()> {
     Ok(())
 }
 
-// A script after the name of a lock, or a bench.
+// A script after the name of a lock, or a bench. Both match on a lock's name: a closure can't be generic in the lock that it
+// is called with.
 fn run<R: Clock>(clock: &R, heap: Global, text: &str) -> anyhow::Result<String> {
     let (first, script) = text.split_once('\n').unwrap_or((text, ""));
     match first {

@@ -34,7 +34,8 @@ impl fmt::Display for Label {
 }
 
 // Finer than a label, so that a slot's phase and class are functions of it: P4 is called before its first
-// try and waits after it, and a reader and a writer hold apart.
+// try and waits after it, and a reader and a writer hold apart. Its phase, class and label are this lock's own tables,
+// which a function over any lock's standings would have to be handed.
 #[derive(Clone, Copy)]
 pub enum Standing {
     I,

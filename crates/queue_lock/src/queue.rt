@@ -18,6 +18,7 @@ pub type QueueLock = LinedLock<Queue, Words>;
 #[derive(Clone, Copy)]
 pub struct Queue;
 
+// Each function hands on to these words.
 impl Procedures<Words> for Queue {
     type Label = Label;
 

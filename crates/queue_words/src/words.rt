@@ -42,7 +42,8 @@ impl Words {
         self.record(slot).standing
     }
 
-    // The call of an idle slot; of any other it changes nothing.
+    // The call of an idle slot; of any other it changes nothing. Like the finish it names this lock's own standings, so that
+    // one function for all locks would have to be handed the same lines.
     pub fn call(&mut self, slot: usize, class: Class)
         ensures { self.new ≡ called self.old slot class }
     {
@@ -66,7 +67,8 @@ impl Words {
         self.stand(slot, next);
     }
 
-    // The slot's one access, by where it stands; each arm names where the slot stands next.
+    // The slot's one access, by where it stands; each arm names where the slot stands next. A match, and no table of
+    // functions: it is read beside the published procedures, label by label.
     pub fn step(&mut self, slot: usize)
         ensures { self.new ≡ stepped self.old slot }
     {

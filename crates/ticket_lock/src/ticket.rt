@@ -18,6 +18,7 @@ pub type TicketLock = LinedLock<Ticket, Words>;
 #[derive(Clone, Copy)]
 pub struct Ticket;
 
+// Each function hands on to these words.
 impl Procedures<Words> for Ticket {
     type Label = Label;
 

@@ -34,7 +34,9 @@ impl fmt::Display for Label {
     }
 }
 
-// A slot's label, with a reader's H and a writer's told apart, so that a standing tells the class too.
+// A slot's label, with a reader's H and a writer's told apart, so that a standing tells the class too. It is no label with
+// a class beside: each proof by cases would have two cases of it. Its phase, class and label are this lock's own tables,
+// which a function over any lock's standings would have to be handed.
 #[derive(Clone, Copy)]
 pub enum Standing {
     I,

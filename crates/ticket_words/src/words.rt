@@ -61,7 +61,8 @@ impl Words {
         }
     }
 
-    // The call of an idle slot; of any other it changes nothing.
+    // The call of an idle slot; of any other it changes nothing. Like the finish it names this lock's own standings, so that
+    // one function for all locks would have to be handed the same lines.
     pub fn call(&mut self, slot: Slot, class: Class)
         ensures { self.new ≡ called self.old slot.index class }
     {

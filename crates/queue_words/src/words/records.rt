@@ -1,4 +1,5 @@
-// The slots' records, read and written. A write to a slot that there is not changes nothing.
+// The slots' records, read and written. A write to a slot that there is not changes nothing. The writers differ in the field
+// that they write; a closure handed to one function would be that same line.
 ghost use Rattle.std.specs.Prelude.{◌≡◌};
 ghost use Rattle.queue_words.specs.Steps.{slot as slot_of, put, stand, unblock, note, link};
 
