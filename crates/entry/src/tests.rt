@@ -52,10 +52,9 @@ fn legs_are_checked_by_a_second_reading(rt: HostRuntime) {
 
 #[test]
 fn stations_join(rt: HostRuntime) {
-    let mut station = StationKind::empty_entry();
-    for given in [3, 3, 0] {
-        station = StationKind::join(station, given);
-    }
+    let station = [3, 3, 0]
+        .into_iter()
+        .fold(StationKind::empty_entry(), StationKind::join);
     assert_eq!(rt; station, Station { first: 3, set: 9 });
     assert_eq!(rt; StationKind::join(station, 32), station);
     assert_eq!(rt;

@@ -70,9 +70,7 @@ fn a_refused_write_changes_nothing(rt: HostRuntime) -> Result<(), Fail> {
     let none = number(lent.write(&mut legs, 1, 0, &[]));
     let many = number(lent.write(&mut legs, 1, 0, &[5; 33]));
     assert_eq!(rt; (third, outside, none, many), (6, 5, 5, 5));
-    for given in &lent.givens {
-        assert_eq!(rt; *given, 9);
-    }
+    assert!(rt; lent.givens.iter().all(|given| *given == 9));
     assert_eq!(rt; lent.write(&mut legs, 1, 37, &[5, 6, 4])?, (1, 1));
     assert!(rt; lent.givens.len() == 64);
     let part = (
