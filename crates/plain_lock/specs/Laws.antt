@@ -1,12 +1,9 @@
 -- The moves of the plain lock mean what a lock's moves are to mean.
-use Rattle.std.specs.Prelude.{◌≡◌, ℕ, ◌%◌, ◌<◌, ◌≤◌, Bool, true, false, cond, ◌⊎◌, length, ◌==◌, ◌≢◌, slice_set, refl}
-use Rattle.std.proofs.Math.Path.{PathP}
+use Rattle.std.specs.Prelude.{◌≡◌, ℕ, ◌%◌, ◌<◌, ◌≤◌, Bool, true, false, cond, ◌⊎◌, length, count_by, ◌==◌, ◌≢◌, refl}
 use Rattle.std.proofs.Common.{sym, ap, subst, ◌∙◌, inl, inr, arith, get_or-set_same, get_or-set_other}
-use mathlib.Core.HLevel.{is_prop→PathP}
-use Rattle.std.proofs.Math.Bridge.{le_prop}
-use Rattle.std.proofs.Math.Nat.{ℕ_set}
-use Rattle.std.proofs.lemmas.List.{set-get_or}
-use Rattle.std.proofs.lemmas.Bool.{eqb-true}
+use Rattle.std.proofs.lemmas.List.{get_or_past}
+use Rattle.std.proofs.lemmas.List.Sums.{get_or-le-sum_by}
+use Rattle.std.proofs.lemmas.Bool.{eqb-true, cases_lt}
 use Rattle.lock.specs.Meaning.{Meaning, Moved, meant, MayHold, Reaches, Stepped, Finished, steps_from, finishes_from}
 use Rattle.lock.specs.Standings as means
 use Rattle.lock.specs.declared.words.Phase.{Phase}
@@ -16,35 +13,25 @@ use Rattle.lock.specs.declared.words.Class.TheVariants.{Reading, Writing}
 use Rattle.plain_words.specs.declared.places.Standing.{Standing}
 use Rattle.plain_words.specs.declared.places.Standing.TheVariants.{I, P1, P2, ReaderH, P3, P4, P4Again, WriterH, P5}
 use Rattle.plain_words.specs.Places.{phase_of, class_of}
-use Rattle.plain_words.specs.Words.{stands, moved, next_at, next_word, stepped, finished_at}
-use Rattle.plain_lock.specs.declared.plain.PlainLock.{PlainLock, full-type, counted-type, alone-type}
+use Rattle.plain_words.specs.Words.{stands, moved, next_at, stepped, finished_at}
+use Rattle.plain_lock.specs.declared.plain.PlainLock.{PlainLock}
 use Rattle.plain_lock.specs.Counts.{reads, writes}
 use Rattle.plain_lock.specs.Moves.{phases, classes, bars, Steps, Finishes}
-use Rattle.plain_lock.specs.Agrees.{at_least_one}
 
 abbrev mean : PlainLock → Meaning
 mean = meant phases classes bars
 
--- two locks with the same words are the same
-same : (s t : PlainLock) → t.words ≡ s.words → t ≡ s
-same s t e = λ i. record {
-  words = e i;
-  full = full i;
-  counted = counted i;
-  alone = is_prop→PathP (λ k. alone-type (e k) (full k) (counted k)) (λ k. le_prop) t.alone s.alone i;
-}
-  where
-    full : PathP (λ k. full-type (e k)) t.full s.full
-    full = is_prop→PathP (λ k. full-type (e k)) (λ k. ℕ_set _ _) t.full s.full
+-- a test, as a number
+abbrev one : Bool → ℕ
+one b = cond b 1 0
 
-    counted : PathP (λ k. counted-type (e k) (full k)) t.counted s.counted
-    counted = is_prop→PathP (λ k. counted-type (e k) (full k)) (λ k. ℕ_set _ _) t.counted s.counted
-
--- a slot that goes to where it stands leaves the lock as it is
-rests : (s t : PlainLock) (i : ℕ) (a : Standing) → stands s.words i ≡ a → t.words ≡ moved s.words i a s.words.word → t ≡ s
-rests s t i a e m =
-    let k = ap (λ x. slice_set s.words.table.slots i x) (sym e) ∙ set-get_or s.words.table.slots i I in
-    same s t (m ∙ ap (λ xs. record { word = s.words.word; table = record { slots = xs } }) k)
+-- what a slot that is counted adds to the count
+at_least_one : (p : Standing → Bool) (s : PlainLock) (i : ℕ) → p I ≡ false → p (stands s.words i) ≡ true → 1 ≤ count_by p s.words.table.slots
+at_least_one p s i z e =
+    elim (cases_lt i (length s.words.table.slots)) [
+      | inl l ↦ let q = get_or-le-sum_by (λ x. one (p x)) s.words.table.slots i I l in omega (arith, ap one e)
+      | inr l ↦ let q = ap (λ x. one (p x)) (get_or_past s.words.table.slots i I l) in omega (arith, ap one e, ap one z)
+    ]
 
 -- where the slots stand after a move of slot i
 moves : (s t : PlainLock) (i : ℕ) (a : Standing) (w : ℕ) → i < 32 → t.words ≡ moved s.words i a w → Moved (stands s.words) i a (stands t.words)
@@ -131,33 +118,3 @@ pub finish_means : (s : PlainLock) (i : ℕ) (t : PlainLock) → i < 32 → Fini
 finish_means s i t h m =
     let d = did_finish (phases s i) m in
     means.finish_means phase_of class_of (stands s.words) (stands t.words) (bars s) (bars t) i _ d.0 (moves s t i _ _ h d.1) (finish_phase _ d.0) (finish_class _)
-
--- a step moves a slot that was called, waits or leaves, and leaves the lock of any other as it is
-abbrev StepsAt : PlainLock → ℕ → Standing → PlainLock → Type 0
-StepsAt s i a t = t.words ≡ moved s.words i (next_at a s.words.word) (next_word a s.words.word)
-
-pub step_at : (s t : PlainLock) (i : ℕ) (a : Standing) → stands s.words i ≡ a → StepsAt s i a t → steps_from (phase_of a) (steps_from (phase_of a) (StepsAt s i a t) ⊥) (t ≡ s)
-step_at s t i I e m = rests s t i I e m
-step_at s t i P1 e m = m
-step_at s t i P2 e m = m
-step_at s t i ReaderH e m = rests s t i ReaderH e m
-step_at s t i P3 e m = m
-step_at s t i P4 e m = m
-step_at s t i P4Again e m = m
-step_at s t i WriterH e m = rests s t i WriterH e m
-step_at s t i P5 e m = m
-
--- a finish moves a slot that holds, and leaves the lock of any other as it is
-abbrev FinishesAt : PlainLock → ℕ → Standing → PlainLock → Type 0
-FinishesAt s i a t = t.words ≡ moved s.words i (finished_at a) s.words.word
-
-pub finish_at : (s t : PlainLock) (i : ℕ) (a : Standing) → stands s.words i ≡ a → FinishesAt s i a t → finishes_from (phase_of a) (finishes_from (phase_of a) (FinishesAt s i a t) ⊥) (t ≡ s)
-finish_at s t i I e m = rests s t i I e m
-finish_at s t i P1 e m = rests s t i P1 e m
-finish_at s t i P2 e m = rests s t i P2 e m
-finish_at s t i ReaderH e m = m
-finish_at s t i P3 e m = rests s t i P3 e m
-finish_at s t i P4 e m = rests s t i P4 e m
-finish_at s t i P4Again e m = rests s t i P4Again e m
-finish_at s t i WriterH e m = m
-finish_at s t i P5 e m = rests s t i P5 e m

@@ -2,4 +2,3 @@ pub mod Counts
 pub mod Moves
 pub mod Fresh
 pub mod Laws
-pub mod Agrees
