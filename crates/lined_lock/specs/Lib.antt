@@ -1,4 +1,3 @@
 pub mod Lines
 pub mod Lock
-pub mod Tables
 pub mod Totals

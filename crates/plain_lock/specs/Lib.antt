@@ -1,4 +1,3 @@
 pub mod Counts
 pub mod Moves
-pub mod Fresh
 pub mod Laws

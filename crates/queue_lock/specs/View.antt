@@ -11,7 +11,7 @@ use Rattle.queue_words.specs.Steps.{slot, put, stand, fresh_words}
 use Rattle.queue_words.specs.declared.record.Record.{Record}
 use Rattle.queue_words.specs.declared.standing.Standing.{Standing}
 use Rattle.queue_words.specs.declared.words.Words.{Words}
-use Rattle.lined_lock.specs.Tables.{all_alike}
+use Rattle.slots.specs.Tables.{all_alike}
 use Rattle.lined_lock.specs.Totals.{total_le}
 use Rattle.queue_lock.specs.Config.{Config, Full, config, upd}
 use Rattle.queue_lock.specs.Invariant.{Inv, share, share_of, one_if, next_share}

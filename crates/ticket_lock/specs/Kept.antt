@@ -2,7 +2,7 @@
 use Rattle.std.specs.Prelude.{◌≡◌, ℕ, ◌+◌, ◌<◌, ◌≤◌, Bool, true, false, cond, List, [], length, ◌==◌, ◌≢◌, slice_index_or, refl}
 use Rattle.std.proofs.Common.{sym, ap, subst, ◌∙◌, arith, length-set, get_or-set_same, get_or-set_other}
 use Rattle.std.proofs.lemmas.Bool.{eqb-true}
-use Rattle.lined_lock.specs.Tables.{all_alike}
+use Rattle.slots.specs.Tables.{all_alike}
 use Rattle.lined_lock.specs.Totals.{total_le}
 use Rattle.lock.specs.Line.{arrives, without}
 use Rattle.lock.specs.Meaning.{steps_from}

@@ -4,8 +4,9 @@ ghost use Rattle.std.proofs.Common.{ap, ◌∙◌, rules};
 ghost use Rattle.plain_lock.specs.Moves.{phases, classes, bars, labels, Opens, Calls, Steps, Finishes};
 ghost use Rattle.plain_words.specs.Places.{phase_of};
 ghost use Rattle.plain_words.specs.Words.{stands};
-ghost use Rattle.plain_lock.specs.Fresh.{all_idle};
 ghost use Rattle.plain_lock.specs.Laws.{step_means, finish_means};
+ghost use Rattle.plain_words.specs.declared.places.Standing.TheVariants.{I};
+ghost use Rattle.slots.specs.Tables.{all_alike};
 
 use super::PlainLock;
 use lock::{Class, Lock, Phase};
@@ -32,7 +33,7 @@ impl Lock for PlainLock {
 
     ghost finishes = { Finishes };
 
-    ghost opened = { λ n s o j. ap (λ w. phase_of (stands w j)) o ∙ ap phase_of (all_idle 32 j) };
+    ghost opened = { λ n s o j. ap (λ w. phase_of (stands w j)) o ∙ ap phase_of (all_alike I 32 j) };
 
     ghost called = { Prim.search rules };
 
