@@ -1,4 +1,3 @@
-mod Digits
 mod Sums
 mod QueueSums
 mod Traces

@@ -1,6 +1,6 @@
 -- A run, one line at a time.
-use Rattle.std.proofs.Common.{◌≡◌, ℕ, ◌+◌, ◌<◌, ◌≤◌, List, [], ◌∷◌, ◌++◌, length, get_or, take, sym, ap, ◌∙◌, subst}
-use Rattle.std.proofs.lemmas.List.{take_more, take_all}
+use Rattle.std.proofs.Common.{◌≡◌, ℕ, ◌+◌, ◌<◌, List, [], ◌∷◌, ◌++◌, length, get_or, take, sym, ap, ◌∙◌, subst}
+use Rattle.std.proofs.lemmas.List.{take_more}
 use Rattle.lock.specs.declared.meaning.Lock as lock
 use Rattle.lock_runs.specs.Acts.{Acted}
 use Rattle.lock_runs.specs.Traces.{Traced, none, more, printed}
@@ -14,6 +14,3 @@ goes k shows s t u lines i l out all h e d a o =
     let step = more (take i lines) out t u l d a in
     let ls : take i lines ++ (l ∷ []) ≡ take (i + 1) lines = ap (λ x. take i lines ++ (x ∷ [])) e ∙ sym (take_more lines i l h) in
     subst (λ o. Traced k shows s (take (i + 1) lines) o u) (sym o) (subst (λ x. Traced k shows s x (out ++ printed k shows t l u) u) ls step)
-
-pub ends : {L Label : Type 0} (k : lock.Ghosts L Label) (shows : L → ℕ → List ℕ) (s t : L) (lines : List Line) (i : ℕ) (out : List ℕ) → length lines ≤ i → Traced k shows s (take i lines) out t → Traced k shows s lines out t
-ends k shows s t lines i out h d = subst (λ x. Traced k shows s x out t) (take_all i lines h) d

@@ -1,7 +1,6 @@
 -- A round's turns are the operations from its number times the number of slots on.
-use Rattle.std.proofs.Common.{◌≡◌, ℕ, ◌+◌, ◌*◌, ◌/◌, ◌%◌, ◌<◌, sym, ap, ◌∙◌, subst, mod-eq_of_lt, mul_comm, add-mul, one-mul, arith}
+use Rattle.std.proofs.Common.{◌≡◌, ℕ, ◌+◌, ◌*◌, ◌/◌, ◌%◌, ◌<◌, sym, ap, ◌∙◌, subst, mod-eq_of_lt, arith}
 use native.Mathlib.Nat.{div-eq_of_lt, mul-add-mod_self_right, mul-add-div_right}
-use Rattle.std.proofs.Math.Nat.{div-add-mod}
 use Rattle.lock.specs.declared.meaning.Lock as lock
 use Rattle.lock.specs.declared.words.Class.{Class}
 use Rattle.lock_runs.specs.Acts.{Acted}
@@ -22,11 +21,3 @@ turned k s t u round slots slot c h z d p =
     let a = subst (λ x. Acted k t slot (next_act (k.phases t slot) x) u) (z ∙ ap class_in (round_is round slots slot h)) p in
     let b = more n t u d (subst (λ x. Acted k t x (next_act (k.phases t x) (class_in (n / slots))) u) (slot_is round slots slot h) a) in
     subst (λ m. Driven k slots s m u) (omega arith) b
-
--- a round with all of its turns is one round more
-pub round_more : (round slots n : ℕ) → n ≡ slots → round * slots + n ≡ (round + 1) * slots
-round_more round slots n e = let d = add-mul round 1 slots in let o = one-mul slots in omega arith
-
--- whole rounds and what is left over are all operations
-pub all_done : (steps slots n : ℕ) → n ≡ slots → steps / n * slots + steps % n ≡ steps
-all_done steps slots n e = ap (λ m. steps / n * m + steps % n) (sym e) ∙ ap (λ m. m + steps % n) (mul_comm (steps / n) n) ∙ div-add-mod steps n
