@@ -1,18 +1,11 @@
 -- Fronts of the table, and lines with one more at their end.
-use Rattle.std.proofs.Common.{◌≡◌, ℕ, ◌+◌, ◌<◌, ◌≤◌, min, Bool, true, false, cond, eqb, ltb, List, [], ◌∷◌, ◌++◌, length, get_or, take, set, sym, refl, ap, ◌∙◌, arith}
-use Rattle.std.proofs.lemmas.List.{take_more, take_all, take-set, take_more_set, length-take-le, get_or-set_other}
-use Rattle.std.proofs.lemmas.Bool.{lt-ltb, le-ltb, ltb-true, ltb-false, eq-eqb, ne_eqb}
+use Rattle.std.proofs.Common.{◌≡◌, ℕ, ◌+◌, ◌<◌, ◌≤◌, Bool, true, false, cond, eqb, List, [], ◌∷◌, ◌++◌, length, get_or, take, set, sym, refl, ap, ◌∙◌, arith}
+use Rattle.std.proofs.lemmas.List.{take_more, take-set, take_more_set, get_or-set_other}
+use Rattle.std.proofs.lemmas.Bool.{lt-ltb, eq-eqb, ne_eqb}
 use Rattle.line_table.specs.Lines.{pushed}
 use Rattle.lock.specs.Line.{without}
 
--- the table is full as its line is
-pub full_alike : (n : ℕ) (xs : List ℕ) → length xs ≡ 32 → ltb n 32 ≡ ltb (length (take n xs)) 32
-full_alike n xs h = by_size (ltb n 32) refl
-  where
-    by_size : (b : Bool) → ltb n 32 ≡ b → ltb n 32 ≡ ltb (length (take n xs)) 32
-    by_size true e = let l = ltb-true n 32 e in let t = length-take-le n xs (omega arith) in e ∙ sym (lt-ltb (length (take n xs)) 32 (omega arith))
-    by_size false e = let l = ltb-false n 32 e in let t = ap length (take_all n xs (omega arith)) in e ∙ sym (le-ltb (length (take n xs)) 32 (omega arith))
-
+-- a line with room takes one more
 pub pushed_room : (i : ℕ) (line : List ℕ) → length line < 32 → pushed i line ≡ line ++ (i ∷ [])
 pushed_room i line h = ap (λ b. cond b (line ++ (i ∷ [])) line) (lt-ltb (length line) 32 h)
 
@@ -49,11 +42,3 @@ drops_out s xs ys i n l e d o =
 -- a write at n leaves what stands behind it
 pub behind : (xs ys : List ℕ) (i n x : ℕ) → n ≤ i → ((k : ℕ) → i ≤ k → get_or xs k 0 ≡ get_or ys k 0) → (k : ℕ) → i + 1 ≤ k → get_or (set xs n x) k 0 ≡ get_or ys k 0
 behind xs ys i n x h f k l = get_or-set_other xs n k x 0 (λ e. omega arith) ∙ f k (omega arith)
-
--- past the table's end a front has no more
-pub front_end : (i n : ℕ) (xs : List ℕ) → i ≡ min n (length xs) → take i xs ≡ take n xs
-front_end i n xs e = by_size (ltb n (length xs)) refl
-  where
-    by_size : (b : Bool) → ltb n (length xs) ≡ b → take i xs ≡ take n xs
-    by_size true h = let l = ltb-true n (length xs) h in ap (λ m. take m xs) (omega arith)
-    by_size false h = let l = ltb-false n (length xs) h in take_all i xs (omega arith) ∙ sym (take_all n xs l)

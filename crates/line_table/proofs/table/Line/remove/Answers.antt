@@ -1,11 +1,7 @@
-use Rattle.std.proofs.Common.{◌≡◌, ℕ, List, length, get_or, take, set, refl, ap, ◌∙◌, arith, length-set, rules}
-use Rattle.line_table.proofs.Rest.{moves_up, drops_out, behind, front_end}
+use Rattle.std.proofs.Common.{◌≡◌, ℕ, List, length, get_or, take, set, ap, ◌∙◌, arith, length-set, rules}
+use Rattle.line_table.proofs.Rest.{moves_up, drops_out, behind}
 use Rattle.line_table.proofs.table.Line.remove.Goals as goal
 use Rattle.line_table.proofs.table.Line.remove.Goals.{then-other-slot, else-other-slot}
-use Rattle.lock.specs.Line.{without}
-
-pub loop-i-init : goal.loop-i-init
-loop-i-init c = (omega arith, search rules, refl, λ k h. refl)
 
 pub loop-i-preserved : goal.loop-i-preserved
 loop-i-preserved c =
@@ -25,10 +21,3 @@ loop-i-preserved c =
       | else-other-slot w ↦
           (omega arith, l, ap (λ z. take z (set xs n (get_or xs i 0))) w.len-is ∙ drops_out s xs ys i n (omega arith) inv.2 d (search rules), behind xs ys i n (get_or xs i 0) inv.0 inv.3)
     ]
-
-pub returns : goal.returns
-returns c =
-    let l = c.args.self.now in
-    let h : length l.slots ≡ 32 = search rules in
-    let m = c.min-i-end.ensures in
-    c.loop-i.invariant.2 ∙ ap (without c.args.slot) (front_end c.loop-i.i l.len l.slots (omega arith))
