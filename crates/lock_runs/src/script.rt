@@ -20,7 +20,7 @@ pub fn read_line(text: &[u8]) -> Option<Line>
     }
 }
 
-// A slot's index is 0 to 31, with no leading zero.
+// A slot's index is 0 to 31, with no leading zero. By patterns, since `parse` would take a sign and zeros too.
 fn read_index(digits: &[u8]) -> Option<usize>
     ensures { Numbered digits.now result }
 {

@@ -63,9 +63,7 @@ fn bench<R: Clock>(clock: &R, heap: Global, first: &str) -> anyhow::Result<Strin
     };
     let count = slots.parse::<usize>()?;
     let steps = steps.parse::<u64>()?;
-    let Some(slots) = Slots::new(count) else {
-        return Err(anyhow!("slots are 1 to 32"));
-    };
+    let slots = Slots::new(count).ok_or_else(|| anyhow!("slots are 1 to 32"))?;
     let (nanos, sum) = match name {
         "plain" => measure::<R, PlainLock>(clock, slots, steps)?,
         "ticket" => measure::<R, TicketLock>(clock, slots, steps)?,

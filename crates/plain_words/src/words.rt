@@ -31,7 +31,8 @@ impl Words {
         self.table.at(slot)
     }
 
-    // An idle slot goes to the first place of its class; any other stays.
+    // An idle slot goes to the first place of its class; any other stays. Like the finish it names this lock's own standings,
+    // so that one function for all locks would have to be handed the same lines.
     pub fn call(&mut self, slot: Slot, class: Class)
         ensures { self.new ≡ called self.old slot.index class }
     {

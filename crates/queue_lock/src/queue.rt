@@ -18,7 +18,8 @@ pub type QueueLock = LinedLock<Queue, Words>;
 #[derive(Clone, Copy)]
 pub struct Queue;
 
-// Each function hands on to these words.
+// A type of this crate and not the words themselves, since they and the trait belong to crates below. Each function hands on
+// to the words, and they alone differ.
 impl Procedures<Words> for Queue {
     type Label = Label;
 

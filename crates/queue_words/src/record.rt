@@ -5,7 +5,7 @@ ghost use Rattle.queue_words.specs.Records.{unused};
 use crate::standing::Standing;
 use lock::Class;
 
-// The class of the slot behind, as far as a record says.
+// The class of the slot behind, as far as a record says. No option of a class: it is a half of the published state word.
 #[derive(Clone, Copy, PartialEq, Eq)]
 pub enum Successor {
     Nobody,
@@ -14,7 +14,7 @@ pub enum Successor {
 }
 
 // The state word: whether the slot is blocked, and its successor class.
-#[derive(Clone, Copy)]
+#[derive(Clone, Copy, PartialEq, Eq)]
 pub struct State {
     pub blocked: bool,
     pub successor: Successor,

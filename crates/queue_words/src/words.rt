@@ -1,4 +1,5 @@
-// Tail, next writer and reader count, beside the slots' records.
+// Tail, next writer and reader count, beside the slots' records. Slots are bare numbers here, as the links from record to
+// record are; a slot that there is not is one that has never had a job.
 ghost use Rattle.std.specs.Prelude.{◌≡◌};
 ghost use Rattle.queue_words.specs.Steps.{stands_at, stepped, called, finished, fresh_words};
 

@@ -5,6 +5,6 @@ pub mod slot;
 pub mod slots;
 pub mod table;
 
-pub use slot::Slot;
+pub use slot::{MOST, Slot};
 pub use slots::Slots;
 pub use table::Table;

@@ -1,4 +1,5 @@
-// A row for each slot.
+// A row for each slot. No ghost field says that there are 32 rows: the definitions of words make tables by equation, and each
+// would have to make that proof too.
 ghost use Rattle.std.specs.Prelude.{◌≡◌, ◌≤◌, length, replicate, slice_index_or, slice_set, MatchOption};
 
 use crate::slot::{MOST, Slot};

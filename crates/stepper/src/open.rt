@@ -1,4 +1,5 @@
-// The open book: the lock by value beside the jobs.
+// The open book: the lock by value beside the jobs. Its calls take the three lists one by one, since each borrows them
+// differently: one struct of them would ask `&mut` of a list that a call only reads.
 ghost use Rattle.std.specs.Prelude.{◌≡◌, length};
 ghost use Rattle.stepper.specs.Jobs.{AllSound, AllTaken};
 

@@ -58,7 +58,7 @@ fn presets_any_entry(rt: HostRuntime) -> Result<(), Fail> {
     let mut made = lend(rt.alloc(), 3, 0, 0)?;
     let mut longer = lend(rt.alloc(), 4, 0, 0)?;
     let bare = BareBook::new::<LegKind>(&mut made.book)?;
-    let empty = Leg::default();
+    let empty = leg(0, 0);
     let odd = Leg {
         readings: 0,
         total: 1,

@@ -1,6 +1,5 @@
 // Jobs step by step.
 use crate::bench::{Lists, leg, lend, number, opened, shows};
-use entry::Leg;
 use lock::{Lock, Phase};
 use plain_lock::PlainLock;
 use plain_words::Label;
@@ -32,7 +31,7 @@ fn a_write_by_the_plain_lock(rt: HostRuntime) -> Result<(), Fail> {
         let (_, at) = lent.step(&mut legs, 0)?;
         assert_eq!(rt; at, label);
     }
-    shows(&rt, &lent.book, 0, [Leg::default(), leg(1, 3_120)]);
+    shows(&rt, &lent.book, 0, [leg(0, 0), leg(1, 3_120)]);
     assert_eq!(rt; lent.step(&mut legs, 1)?, (Phase::Idle, Label::I));
     Ok(())
 }
@@ -69,7 +68,7 @@ fn ranges_and_a_given_that_is_no_longer_accepted(rt: HostRuntime) -> Result<(), 
     lent.givens[1] = 0;
     assert_eq!(rt; steps_to_end(&mut legs, &mut lent, 0)?, 9);
     assert_eq!(rt; steps_of_read(&mut legs, &mut lent, 1, 0, 5)?, 8);
-    let empty = Leg::default();
+    let empty = leg(0, 0);
     shows(
         &rt,
         &lent.rows,

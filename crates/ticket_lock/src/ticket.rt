@@ -18,7 +18,8 @@ pub type TicketLock = LinedLock<Ticket, Words>;
 #[derive(Clone, Copy)]
 pub struct Ticket;
 
-// Each function hands on to these words.
+// A type of this crate and not the words themselves, since they and the trait belong to crates below. Each function hands on
+// to the words, and they alone differ.
 impl Procedures<Words> for Ticket {
     type Label = Label;
 

@@ -138,7 +138,7 @@ impl<P: Procedures<W>, W: Copy> Lock for LinedLock<P, W> {
                 self.take_in(slot, class);
                 Ok(())
             }
-            (_, _) => Err(Refusal::SlotBusy),
+            _ => Err(Refusal::SlotBusy),
         }
     }
 

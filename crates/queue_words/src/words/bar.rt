@@ -6,6 +6,7 @@ use super::Words;
 use crate::standing::Standing;
 
 impl Words {
+    // A loop and no `any`: of `any` over a range the library tells by runs of its iterator, from which the proof did not close.
     pub fn is_barred(&self, slot: usize) -> bool
         ensures { result ≡ barred self.now slot }
     {
@@ -23,7 +24,7 @@ impl Words {
         let record = self.record(other);
         match (record.standing, record.w) {
             (Standing::E8 | Standing::E9, Some(w)) => other != slot && w == slot,
-            (_, _) => false,
+            _ => false,
         }
     }
 }

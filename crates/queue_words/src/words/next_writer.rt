@@ -19,9 +19,10 @@ impl Words {
     pub(crate) fn take_next_writer(&mut self, slot: usize, itself: Standing, other: Standing)
         ensures { self.new ≡ name (stand self.old slot (if is_slot slot self.old.next_writer then itself else other)) None }
     {
-        match self.next_writer {
-            Some(writer) if writer == slot => self.stand(slot, itself),
-            _ => self.stand(slot, other),
+        if self.next_writer == Some(slot) {
+            self.stand(slot, itself);
+        } else {
+            self.stand(slot, other);
         }
         self.next_writer = None;
     }
@@ -51,12 +52,12 @@ impl Words {
     pub(crate) fn take_if_named(&mut self, slot: usize, done: Standing, other: Standing)
         ensures { self.new ≡ take_if_named self.old slot (slot_of self.old slot).w done other }
     {
-        match (self.record(slot).w, self.next_writer) {
-            (Some(w), Some(writer)) if writer == w => {
-                self.stand(slot, done);
-                self.next_writer = None;
-            }
-            (_, _) => self.stand(slot, other),
+        let w = self.record(slot).w;
+        if w.is_some() && self.next_writer == w {
+            self.stand(slot, done);
+            self.next_writer = None;
+        } else {
+            self.stand(slot, other);
         }
     }
 }

@@ -1,7 +1,7 @@
 // The accesses to another slot's record: pred's, next's and w's.
-ghost use Rattle.std.specs.Prelude.{◌≡◌, Some, None};
+ghost use Rattle.std.specs.Prelude.{◌≡◌};
 ghost use Rattle.queue_words.specs.Steps.{slot as slot_of, stand, unblock, note, link, by_class, class_at, note_if_alone};
-ghost use Rattle.queue_words.specs.declared.record.Successor.TheVariants.{Reader, Writer};
+ghost use Rattle.queue_words.specs.declared.record.Successor.TheVariants.{Writer};
 
 use super::Words;
 use crate::record::{State, Successor};
@@ -38,18 +38,16 @@ impl Words {
     pub(crate) fn note_reader(&mut self, slot: usize, done: Standing, other: Standing)
         ensures { self.new ≡ note_if_alone self.old slot (slot_of self.old slot).pred done other }
     {
+        let alone = State {
+            blocked: true,
+            successor: Successor::Nobody,
+        };
         match self.record(slot).pred {
-            Some(pred) => match self.record(pred).state {
-                State {
-                    blocked: true,
-                    successor: Successor::Nobody,
-                } => {
-                    self.stand(slot, done);
-                    self.note(Some(pred), Successor::Reader);
-                }
-                _ => self.stand(slot, other),
-            },
-            None => self.stand(slot, other),
+            Some(pred) if self.record(pred).state == alone => {
+                self.stand(slot, done);
+                self.note(Some(pred), Successor::Reader);
+            }
+            _ => self.stand(slot, other),
         }
     }
 

@@ -1,4 +1,4 @@
-// The accesses to the slot's own record.
+// The accesses to the slot's own record. Each reads one word, and what it reads is all in which these functions differ.
 ghost use Rattle.std.specs.Prelude.{◌≡◌, if◌then◌else◌};
 ghost use Rattle.queue_words.specs.Steps.{slot as slot_of, stand, is_none, is_behind};
 

@@ -1,8 +1,7 @@
 // The accesses to the tail and the reader count. Each makes one access for a slot, and leaves it at one of the standings that
 // it is told, by the word just read.
-ghost use Rattle.std.specs.Prelude.{◌≡◌, if◌then◌else◌, Some, None, nat_eq};
-ghost use Rattle.queue_words.specs.Steps.{slot as slot_of, stand, name, unblock, note, link, is_none, is_slot, is_reader, is_writer, by_class, class_at, swap_tail, release_tail, count_in, count_out, note_if_alone, keep_next_writer, take_if_named};
-ghost use Rattle.queue_words.specs.declared.record.Successor.TheVariants.{Reader, Writer};
+ghost use Rattle.std.specs.Prelude.{◌≡◌, if◌then◌else◌, nat_eq};
+ghost use Rattle.queue_words.specs.Steps.{stand, swap_tail, release_tail, count_in, count_out};
 
 use super::Words;
 use crate::record::{Record, State, Successor};
@@ -37,12 +36,11 @@ impl Words {
     pub(crate) fn release_tail(&mut self, slot: usize, done: Standing, other: Standing)
         ensures { self.new ≡ release_tail self.old slot done other }
     {
-        match self.tail {
-            Some(tail) if tail == slot => {
-                self.stand(slot, done);
-                self.tail = None;
-            }
-            _ => self.stand(slot, other),
+        if self.tail == Some(slot) {
+            self.stand(slot, done);
+            self.tail = None;
+        } else {
+            self.stand(slot, other);
         }
     }
 

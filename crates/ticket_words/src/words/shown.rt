@@ -23,12 +23,12 @@ impl Words {
     pub fn kept(&self, slot: Slot) -> u32
         ensures { result ≡ kept_by self.now slot.index }
     {
-        self.places().at(slot).kept
+        self.table.at(slot).kept
     }
 
-    pub fn places(&self) -> Table<Place>
-        ensures { result ≡ self.now.table }
+    pub fn places(&self) -> &Table<Place>
+        ensures { result.now ≡ self.now.table }
     {
-        self.table
+        &self.table
     }
 }

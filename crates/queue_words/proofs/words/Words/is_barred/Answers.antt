@@ -1,6 +1,6 @@
-use Rattle.std.proofs.Common.{◌≡◌, false, sym, ◌∙◌, subst, arith}
+use Rattle.std.proofs.Common.{sym, ◌∙◌}
 use Rattle.queue_words.proofs.Some.{some_at, none_more, none_yet}
-use Rattle.queue_words.specs.Bar.{asks_for, some_below}
+use Rattle.queue_words.specs.Bar.{asks_for}
 use Rattle.queue_words.proofs.words.Words.is_barred.Goals as goal
 
 pub returns-then-asks_for : goal.returns-then-asks_for
@@ -11,6 +11,3 @@ loop-other-preserved c = none_more (asks_for c.args.self.now c.args.slot) c.loop
 
 pub loop-other-init : goal.loop-other-init
 loop-other-init c = none_yet (asks_for c.args.self.now c.args.slot)
-
-pub returns : goal.returns
-returns c = sym (subst (λ n. some_below (asks_for c.args.self.now c.args.slot) n ≡ false) (omega arith) c.loop-other.invariant)
