@@ -1,6 +1,7 @@
 // What the lock does at each move.
 ghost use Rattle.std.specs.Prelude.{◌≡◌, false};
 ghost use Rattle.std.proofs.Common.{sym, ap, ◌∙◌, subst};
+ghost use Rattle.line_table.specs.Lines.{in_line};
 ghost use Rattle.lock.specs.Line.{Arrived};
 ghost use Rattle.lock.specs.Meaning.{meant, CalledIn, Stepped, Finished};
 ghost use Rattle.lock.specs.declared.words.Class.TheVariants.{Writing};
@@ -17,6 +18,19 @@ use std::marker::PhantomData;
 
 // Each move makes new words and a new line, and writes the lock whole, as the two change together under the invariant.
 impl<P: Procedures<W>, W: Copy> LinedLock<P, W> {
+    // The lock is written whole, where such words are tied to such a line.
+    fn rewrite(&mut self, words: W, line: Line)
+        requires { P.keeps words (in_line line) }
+        ensures words { self.new.words ≡ words }
+        ensures line { self.new.line ≡ line }
+    {
+        *self = LinedLock {
+            words,
+            line,
+            of: PhantomData,
+        };
+    }
+
     // The call of an idle slot, not barred if it is to write.
     fn take_in(&mut self, slot: Slot, class: Class)
         requires { (phases self.old slot.index ≡ Idle) × (class ≡ Writing → bars self.old slot.index ≡ false) }
@@ -24,12 +38,7 @@ impl<P: Procedures<W>, W: Copy> LinedLock<P, W> {
     {
         let mut words = self.words;
         P::call(&mut words, slot, class);
-        let line = self.line;
-        *self = LinedLock {
-            words,
-            line,
-            of: PhantomData,
-        };
+        self.rewrite(words, self.line);
     }
 
     // The first step of a called slot: it arrives at the line's end.
@@ -41,11 +50,7 @@ impl<P: Procedures<W>, W: Copy> LinedLock<P, W> {
         P::step(&mut words, slot);
         let mut line = self.line;
         line.push(slot.index());
-        *self = LinedLock {
-            words,
-            line,
-            of: PhantomData,
-        };
+        self.rewrite(words, line);
     }
 
     // A step of a slot that waits or leaves.
@@ -55,12 +60,7 @@ impl<P: Procedures<W>, W: Copy> LinedLock<P, W> {
     {
         let mut words = self.words;
         P::step(&mut words, slot);
-        let line = self.line;
-        *self = LinedLock {
-            words,
-            line,
-            of: PhantomData,
-        };
+        self.rewrite(words, self.line);
     }
 
     // The end of a hold: the slot quits the line.
@@ -72,11 +72,7 @@ impl<P: Procedures<W>, W: Copy> LinedLock<P, W> {
         P::finish(&mut words, slot);
         let mut line = self.line;
         line.remove(slot.index());
-        *self = LinedLock {
-            words,
-            line,
-            of: PhantomData,
-        };
+        self.rewrite(words, line);
     }
 }
 
