@@ -1,5 +1,5 @@
 -- What a check of some reasons to refuse answers.
-use Rattle.std.specs.Prelude.{◌≡◌, ℕ, Some, Ok, Err, Option, Result}
+use Rattle.std.specs.Prelude.{◌≡◌, Some, Ok, Err, Option, Result}
 use Rattle.refusal.specs.declared.reason.Refusal.{Refusal}
 
 -- what is tried goes on to the rest, or ends in a refusal

@@ -1,5 +1,5 @@
 -- The rows of the job table.
-use Rattle.std.specs.Prelude.{◌≡◌, ◌≢◌, ℕ, ◌+◌, ◌<◌, true, false, List, Some, None, Option, slice_index_or}
+use Rattle.std.specs.Prelude.{◌≢◌, ℕ, ◌+◌, ◌<◌, true, false, List, None, Option, slice_index_or}
 use Rattle.std.specs.Option.{ForSome}
 use Rattle.lock.specs.declared.words.Class.{Class}
 use Rattle.lock.specs.declared.words.Phase.{Phase}
