@@ -1,5 +1,4 @@
 // The text of a script's line: one act of a slot.
-ghost use Rattle.std.specs.Prelude.{◌≡◌};
 ghost use Rattle.lock_runs.specs.Scripts.{Lettered, Numbered, Reads};
 
 use crate::act::Act;

@@ -1,5 +1,4 @@
 // The moves of the plain lock's slots, and what they mean.
-ghost use Rattle.std.specs.Prelude.{◌≡◌, ◌<◌};
 ghost use Rattle.std.proofs.Common.{ap, ◌∙◌, rules};
 ghost use Rattle.plain_lock.specs.Moves.{phases, classes, bars, labels, Opens, Calls, Steps, Finishes};
 ghost use Rattle.plain_words.specs.Places.{phase_of};
