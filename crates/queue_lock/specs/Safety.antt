@@ -3,13 +3,13 @@ use Rattle.std.specs.Prelude.{◌≡◌, ℕ, Bool, true, false, [], None, ◌�
 use Rattle.std.proofs.Common.{sym, subst, inl, inr, arith}
 use Rattle.std.proofs.lemmas.Option.{none-some}
 use Rattle.std.proofs.lemmas.Bool.{both_ways, cases_order}
-use Rattle.queue_words.specs.declared.standing.Standing.TheVariants.{I, W8, WriterH}
+use Rattle.queue_words.specs.declared.standing.Standing.TheVariants.{I, W8, R10, WriterH}
 use Rattle.lock.specs.declared.words.Class.TheVariants.{Reading, Writing}
 use Rattle.queue_lock.specs.Sets as is
 use Rattle.queue_lock.specs.Places.{pos}
 use Rattle.lined_lock.specs.Totals.{total}
 use Rattle.queue_lock.specs.Config.{Config}
-use Rattle.queue_lock.specs.Invariant.{Inv, Alone, share}
+use Rattle.queue_lock.specs.Invariant.{Inv, Alone, Front, share}
 use Rattle.queue_lock.specs.Rows.{row, row_of}
 use Rattle.queue_lock.specs.Places.{Distinct}
 use Rattle.queue_words.specs.Records.{unused}
@@ -68,6 +68,10 @@ writer_excludes w v i e b y k =
       | inr (inl q) ↦ fact.writer_not_act (w.at i) ((v.own i).writing o.writing) (f.ahead i q)
       | inr (inr q) ↦ let z = a.first in omega arith
     ]
+
+-- a reader that begins to hold stands behind readers alone
+pub reader_order : (w : Config) → Inv w → (i : ℕ) → (w.at i).standing ≡ R10 → Front w i
+reader_order w v i e = let o = row_of e in v.front i (fact.in_line w v i o.lining) (rw ((v.own i).off o.off) refl)
 
 -- a slot at the front that reads: no writer holds
 pub reader_excludes : (w : Config) → Inv w → (i : ℕ) → is.off (w.at i).standing ≡ true → is.lining (w.at i).standing ≡ true → (w.at i).class ≡ Reading → (y : ℕ) → (w.at y).standing ≡ WriterH → (w.at y).class ≢ Writing
