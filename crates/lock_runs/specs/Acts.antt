@@ -12,7 +12,7 @@ use Rattle.lock_runs.specs.declared.act.Answer.TheVariants.{Accepted, Refused, S
 
 abbrev pub answer_of : Result (Unit {0}) Refusal → Answer
 answer_of (Ok u) = Accepted
-answer_of (Err e) = Refused e
+answer_of (Err e) = Refused (number_of e)
 
 -- slot i's act turns lock s into t
 abbrev pub Acted : {L Label : Type 0} → lock.Ghosts L Label → L → ℕ → Act → L → Type 0
@@ -29,5 +29,5 @@ answered k s i Finish t = Stands (k.phases t i)
 -- a refusal is printed as its number
 abbrev pub answer_text : Answer → List ℕ
 answer_text Accepted = codes "ok"
-answer_text (Refused e) = decimal (number_of e)
+answer_text (Refused number) = decimal number
 answer_text (Stands phase) = phase_text phase

@@ -1,9 +1,9 @@
 // What a script asks of a lock, and what the lock answers.
 ghost use Rattle.std.specs.Prelude.{◌≡◌, Some};
+ghost use Rattle.lock.specs.Phases.{phase_text};
 ghost use Rattle.lock_runs.specs.Acts.{Acted, answered, answer_text};
 
 use lock::{Class, Lock, Phase};
-use refusal::Refusal;
 use slots::Slot;
 use std::fmt;
 
@@ -17,7 +17,8 @@ pub enum Act {
 #[derive(Clone, Copy)]
 pub enum Answer {
     Accepted,
-    Refused(Refusal),
+    // With the refusal's number. It is no `Refusal`, since any number can be printed.
+    Refused(u32),
     Stands(Phase),
 }
 
@@ -29,11 +30,18 @@ pub fn perform<L: Lock>(lock: &mut L, slot: Slot, act: Act) -> Answer
     match act {
         Act::Call(class) => match lock.call(slot, class) {
             Ok(()) => Answer::Accepted,
-            Err(refusal) => Answer::Refused(refusal),
+            Err(e) => Answer::Refused(e.number()),
         },
         Act::Step => Answer::Stands(lock.step(slot).0),
         Act::Finish => Answer::Stands(lock.finish(slot).0),
     }
+}
+
+// What a phase is printed as, for a caller without a writer.
+pub fn phase_name(phase: Phase) -> &'static str
+    ensures { result.now ≡ phase_text phase }
+{
+    phase.name()
 }
 
 impl fmt::Display for Answer {
@@ -42,7 +50,7 @@ impl fmt::Display for Answer {
     fn fmt<W: fmt::Write>(&self, f: &mut fmt::Formatter<W>) -> fmt::Result {
         match *self {
             Answer::Accepted => write!(f, "ok"),
-            Answer::Refused(refusal) => write!(f, "{}", refusal.number()),
+            Answer::Refused(number) => write!(f, "{number}"),
             Answer::Stands(phase) => write!(f, "{phase}"),
         }
     }
