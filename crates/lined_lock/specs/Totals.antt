@@ -1,5 +1,5 @@
 -- Sums over the slots.
-use Rattle.std.specs.Prelude.{◌≡◌, ℕ, zero, suc, ◌+◌, ◌*◌, ◌<◌, ◌≤◌, ◌≢◌, refl}
+use Rattle.std.specs.Prelude.{◌≡◌, ℕ, zero, suc, ◌+◌, ◌*◌, ◌<◌, ◌≤◌, cond, ◌==◌, ◌≢◌, refl}
 use Rattle.std.proofs.Common.{ap, inl, inr, arith}
 use Rattle.std.proofs.lemmas.Bool.{cases_lt}
 
@@ -36,6 +36,16 @@ total_at f i (suc n) h =
       | inl k ↦ let t = total_at f i n k in omega arith
       | inr k ↦ let q : i ≡ n = omega arith in let a = ap f q in omega arith
     ]
+
+-- two slots change
+pub total_two : (f g : ℕ → ℕ) (i k n : ℕ) → ((j : ℕ) → (j ≢ i) → (j ≢ k) → g j ≡ f j) → (i ≢ k) → i < n → k < n → total g n + (f i + f k) ≡ total f n + (g i + g k)
+total_two f g i k n e d h l =
+    let m : ℕ → ℕ = λ j. cond (j == i) (g i) (f j) in
+    let a = total_one f m i n (λ j z. grind arith) h in
+    let b = total_one m g k n (λ j z. let y = e j in grind arith) l in
+    let c : m i ≡ g i = grind arith in
+    let q : m k ≡ f k = grind arith in
+    omega arith
 
 -- where no slot adds more than c
 pub total_le : (f : ℕ → ℕ) (c n : ℕ) → ((j : ℕ) → f j ≤ c) → total f n ≤ c * n

@@ -26,7 +26,7 @@ abbrev one : Bool → ℕ
 one b = cond b 1 0
 
 -- what a slot that is counted adds to the count
-at_least_one : (p : Standing → Bool) (s : PlainLock) (i : ℕ) → p I ≡ false → p (stands s.words i) ≡ true → 1 ≤ count_by p s.words.table.slots
+pub at_least_one : (p : Standing → Bool) (s : PlainLock) (i : ℕ) → p I ≡ false → p (stands s.words i) ≡ true → 1 ≤ count_by p s.words.table.slots
 at_least_one p s i z e =
     elim (cases_lt i (length s.words.table.slots)) [
       | inl l ↦ let q = get_or-le-sum_by (λ x. one (p x)) s.words.table.slots i I l in omega (arith, ap one e)
