@@ -25,7 +25,8 @@ impl Shown for TicketLock {
     fn checksum(&self) -> u32 {
         let words = self.words();
         let mut sum = mix(mix(0, words.requests()), words.completions());
-        for place in words.places().rows() {
+        let rows = words.places().rows();
+        for place in rows {
             sum = mix(sum, place.kept);
         }
         sum

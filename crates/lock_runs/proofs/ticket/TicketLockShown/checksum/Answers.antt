@@ -8,7 +8,7 @@ loop-place-init c = let b = sum_begins c.args.self.now.words in cc
 
 pub loop-place-preserved : goal.loop-place-preserved
 loop-place-preserved c =
-    let rows = c.rows-place-items.ensures ∙ ap (λ t. t.slots) (c.places.ensures ∙ ap (λ w. w.table) c.words-words.ensures) in
+    let rows = c.rows-rows.ensures ∙ ap (λ t. t.slots) (c.places.ensures ∙ ap (λ w. w.table) c.words-words.ensures) in
     let kept = ap (λ xs. (place_at xs c.loop-place.place-index).kept) rows in
     let b = sum_more c.args.self.now.words c.loop-place.place-index in
     cc
